@@ -1,2 +1,2 @@
-pub mod Added
-pub mod Numbers
+pub mod EntryInterning
+pub mod ConstantNumbers

@@ -2,12 +2,12 @@ ghost use Rattle.std.specs.Prelude.{◌≡◌, ◌⊎◌, ◌≤◌, ◌<◌, �
 ghost use Rattle.std.specs.List.{position};
 ghost use Rattle.jparts.specs.declared.jpool.entry.Entry.{Entry};
 ghost use Rattle.jparts.specs.declared.jpool.entry.Entry.TheVariants.{Unused};
-ghost use Rattle.jparts.specs.jpool.Adding.{has_spelling, laid, names_text};
-ghost use Rattle.jparts.specs.jpool.Entries.{entry};
-ghost use Rattle.jparts.specs.jpool.Pools.{IsPool};
+ghost use Rattle.jparts.specs.jpool.EntryLayouts.{has_spelling, laid, names_text};
+ghost use Rattle.jparts.specs.jpool.PoolEntries.{entry};
+ghost use Rattle.jparts.specs.jpool.ConstantPools.{IsPool};
 ghost use Rattle.jadder.specs.declared.adder.AddError.TheVariants.{Memory};
-ghost use Rattle.jadder.specs.Added.{IsLeast, added, put_behind, same};
-ghost use Rattle.jadder.specs.Numbers.{AreLeast, IsNumbered, Notes, number_at};
+ghost use Rattle.jadder.specs.EntryInterning.{IsLeast, added, put_behind, same};
+ghost use Rattle.jadder.specs.ConstantNumbers.{AreLeast, IsNumbered, Notes, number_at};
 
 use indexmap::IndexMap;
 use jground::jbase::Seq;
@@ -103,7 +103,7 @@ pub struct Adder {
 impl Model for Adder {
     ghost use Rattle.std.specs.Prelude.{List};
     ghost use Rattle.jparts.specs.declared.jpool.entry.Entry.{Entry};
-    ghost use Rattle.jadder.specs.Numbers.{IsNumbered};
+    ghost use Rattle.jadder.specs.ConstantNumbers.{IsNumbered};
 
     ghost Value = { List Entry };
 

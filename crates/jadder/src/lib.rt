@@ -1,12 +1,10 @@
 //! New constants: the `Adder`, a constant pool that grows, over `indexmap`.
 //!
-//! - `Added`: the least equal entry, or the place behind the others.
-//! - `Numbers`: the numbers that are kept beside the pool, by the bytes that spell each entry.
+//! - `EntryInterning`: the least equal entry, or the place behind the others.
+//! - `ConstantNumbers`: the numbers that are kept beside the pool, by the bytes that spell each entry.
 //!
 //! Proved: `Adder::add` answers the least index of an equal entry or puts the entry behind the others, `PoolFull` exactly where there is
 //! no room, and leaves the pool as it was at every error. Moving and made jobs put entries by the adder.
-//!
-//! Rooms of moving and of jobs may name it, and tests.
 #![tactic(auto)]
 
 mod adder;

@@ -4,7 +4,7 @@
 //! No room names it.
 #![tactic(auto)]
 
-use jmain::run;
+use jtop::jmain::run;
 use std::process::ExitCode;
 
 fn main(rt: HostRuntime) -> ExitCode {

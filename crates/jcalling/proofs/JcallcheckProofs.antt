@@ -1,4 +1,4 @@
-pub mod Came
-pub mod Deciding
-pub mod Lasting
+pub mod CheckOutcomes
+pub mod CheckAnswers
+pub mod InvariantPreservation
 pub mod Operands

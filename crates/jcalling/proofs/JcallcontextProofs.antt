@@ -1,3 +1,3 @@
-pub mod Answered
-pub mod Found
-pub mod Left
+pub mod CallAnswers
+pub mod ContextRequests
+pub mod CallOutcomes

@@ -1,3 +1,3 @@
-pub mod Leaving
-pub mod Ran
-pub mod Settled
+pub mod LibraryOutcomes
+pub mod LibraryPreservation
+pub mod RowCompletion

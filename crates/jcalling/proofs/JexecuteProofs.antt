@@ -1,8 +1,8 @@
-pub mod Advanced
-pub mod Behind
-pub mod Ended
-pub mod Fetched
-pub mod Loaded
-pub mod Moved
-pub mod Referred
-pub mod Hastened
+pub mod FrameSteps
+pub mod RowOutcomes
+pub mod StepOutcomes
+pub mod InstructionFetch
+pub mod ConstantLoads
+pub mod MachineSteps
+pub mod ReferenceSteps
+pub mod QuickSteps

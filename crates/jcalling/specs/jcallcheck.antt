@@ -1,2 +1,2 @@
-pub mod Finding
-pub mod Coming
+pub mod CheckRequests
+pub mod CheckOutcomes

@@ -1,2 +1,2 @@
-pub mod Rows
-pub mod Finding
+pub mod ContextCallRows
+pub mod ContextRequests

@@ -1,2 +1,2 @@
-pub mod Ways
-pub mod Running
+pub mod CallRowOutcomes
+pub mod LibraryRuns

@@ -1,3 +1,3 @@
-pub mod Advancing
-pub mod Executing
-pub mod Hastening
+pub mod FrameSteps
+pub mod ThreadSteps
+pub mod FastSteps

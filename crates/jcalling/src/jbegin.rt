@@ -1,12 +1,10 @@
 //! How a thread begins, as a step of `jcore`'s machine.
 //!
-//! - `Beginning`: what the call of its Runnable's `run` comes to, and what the step does by it.
+//! - `ThreadStarts`: what the call of its Runnable's `run` comes to, and what the step does by it.
 //!
 //! Proved: `begin_thread` comes to the machine's step by all rules where the running thread has no frames: it ends at once without a
 //! Runnable; else it has the frame of `run`, which on the passing side is given what it inherited, or is ended by the exception in its
 //! place.
-//!
-//! Rooms of the machine may name it.
 
 mod beginning;
 mod failing;

@@ -2,10 +2,10 @@
 //! has where its newest frame stands, the row of a load (`jconstants`), of an instruction with references (`jrefs`) or of any other
 //! (`jstep`), and what is left behind it for the machine (`jcore`'s `settle`).
 //!
-//! - `Advancing`: which rows have an instruction, and what a step of a thread's frames came to, with the string constants before and
+//! - `FrameSteps`: which rows have an instruction, and what a step of a thread's frames came to, with the string constants before and
 //!   behind it.
-//! - `Executing`: the same for the machine, of which nothing else changes; what `execute` came to.
-//! - `Hastening`: which instructions are tried quickly, all those that have a row, calls and returns, and what a stretch of such steps came
+//! - `ThreadSteps`: the same for the machine, of which nothing else changes; what `execute` came to.
+//! - `FastSteps`: which instructions are tried quickly, all those that have a row, calls and returns, and what a stretch of such steps came
 //!   to.
 //!
 //! Proved: `hasten` makes steps of the running thread as long as they are quick, and answers how many: each is jmachine's `step` by all
@@ -17,8 +17,6 @@
 //! the thread stands at a call of the library, nothing has changed of the state; by all such rules the step is what that
 //! member of the library comes to with the operands that are there, it asks what that member asks, and an object that is given a message
 //! may be told one.
-//!
-//! Rooms of the machine may name it.
 
 mod advancing;
 mod executing;

@@ -1,3 +1,3 @@
-pub mod Made
-pub mod Standing
-pub mod Turned
+pub mod ConstructorCalls
+pub mod ThreadInvariants
+pub mod ThreadCalls

@@ -1,17 +1,17 @@
 ghost use Rattle.std.specs.Prelude.{◌≡◌, IfOk, None, OnOk, Some};
 ghost use Rattle.jlib.specs.declared.calls.LibCall.TheVariants as calls;
-ghost use Rattle.jmodel.specs.jguard.Standing.{AskedOnce, Keeps};
-ghost use Rattle.jmodel.specs.jstate.Framed.{Framed};
-ghost use Rattle.jstepping.specs.jcore.Answering.{Answered, AsksKnown, Calling, asked_of, outcome_of};
-ghost use Rattle.jstepping.specs.jcore.Comings.{GoesOn};
-ghost use Rattle.jstepping.specs.jcore.Machines.{StaysFixed};
+ghost use Rattle.jguard.specs.NumberMeanings.{AskedOnce, Keeps};
+ghost use Rattle.jruntime.specs.jstate.FrameLists.{Framed};
+ghost use Rattle.jstepping.specs.jcore.AnsweredCalls.{Answered, AsksKnown, Calling, asked_of, outcome_of};
+ghost use Rattle.jstepping.specs.jcore.MachineOutcomes.{GoesOn};
+ghost use Rattle.jstepping.specs.jcore.MachineInvariants.{StaysFixed};
 
 use crate::making::call_init;
 use crate::turning::call_turn;
+use jguard::Guard;
 use jlib::ThreadCall;
 use jlibcalls::jthreading::init_laws;
-use jmodel::jguard::Guard;
-use jmodel::jrun::Came;
+use jruntime::jrun::Came;
 use jstepping::jcore::Machine;
 use std::alloc::{AllocError, Global};
 

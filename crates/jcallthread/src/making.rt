@@ -1,19 +1,19 @@
 ghost use Rattle.std.specs.Prelude.{◌≡◌, IfOk, None, OnOk, Some};
 ghost use Rattle.jlib.specs.declared.calls.LibCall.TheVariants as calls;
 ghost use Rattle.jlib.specs.declared.calls.ThreadCall.TheVariants as threads;
-ghost use Rattle.jmodel.specs.jmachine.Asked.{Inherits, Kept, carried};
-ghost use Rattle.jmodel.specs.jguard.Standing.{AnswersFor, AskedOnce, IsKnownIn, Keeps};
-ghost use Rattle.jmodel.specs.jstate.Framed.{Framed};
-ghost use Rattle.jstepping.specs.jcore.Answering.{Answered, AsksKnown, Calling, asked_of, outcome_of};
-ghost use Rattle.jstepping.specs.jcore.Comings.{GoesOn};
-ghost use Rattle.jstepping.specs.jcore.Machines.{StaysFixed, state_of};
-ghost use Rattle.jcallthread.specs.Threads.{IsGivenIn, MakesIn};
+ghost use Rattle.jsemantics.specs.jmachine.AccessQueries.{Inherits, Kept, carried};
+ghost use Rattle.jguard.specs.NumberMeanings.{AnswersFor, AskedOnce, IsKnownIn, Keeps};
+ghost use Rattle.jruntime.specs.jstate.FrameLists.{Framed};
+ghost use Rattle.jstepping.specs.jcore.AnsweredCalls.{Answered, AsksKnown, Calling, asked_of, outcome_of};
+ghost use Rattle.jstepping.specs.jcore.MachineOutcomes.{GoesOn};
+ghost use Rattle.jstepping.specs.jcore.MachineInvariants.{StaysFixed, state_of};
+ghost use Rattle.jcallthread.specs.ThreadCalls.{IsGivenIn, MakesIn};
 
 use crate::turning::went;
+use jguard::{Guard, ask_inherit};
 use jlib::Side;
 use jlibcalls::jthreading::{Given, init_laws, make, named_by};
-use jmodel::jguard::{Guard, ask_inherit};
-use jmodel::jrun::Came;
+use jruntime::jrun::Came;
 use jstepping::jcore::Machine;
 use std::alloc::{AllocError, Global};
 

@@ -1,23 +1,23 @@
 ghost use Rattle.std.specs.Prelude.{◌≡◌, [], IfOk, OnOk, Some};
 ghost use Rattle.jlib.specs.declared.calls.LibCall.TheVariants as calls;
-ghost use Rattle.jmodel.specs.declared.jrun.came.Came.TheVariants as stepped;
-ghost use Rattle.jmodel.specs.jstate.Framed.{Framed};
-ghost use Rattle.jlibcalls.specs.jthreading.Laws.{IsNoInit};
-ghost use Rattle.jstepping.specs.jcore.Answering.{Calling, outcome_of};
-ghost use Rattle.jstepping.specs.jcore.Comings.{Comes, GoesOn, any};
-ghost use Rattle.jstepping.specs.jcore.Machines.{StaysFixed};
-ghost use Rattle.jcallthread.specs.Threads.{TurnsOn, turned_as};
+ghost use Rattle.jruntime.specs.declared.jrun.came.Came.TheVariants as stepped;
+ghost use Rattle.jruntime.specs.jstate.FrameLists.{Framed};
+ghost use Rattle.jlibcalls.specs.jthreading.ThreadLaws.{IsNoInit};
+ghost use Rattle.jstepping.specs.jcore.AnsweredCalls.{Calling, outcome_of};
+ghost use Rattle.jstepping.specs.jcore.MachineOutcomes.{Comes, GoesOn, any};
+ghost use Rattle.jstepping.specs.jcore.MachineInvariants.{StaysFixed};
+ghost use Rattle.jcallthread.specs.ThreadCalls.{TurnsOn, turned_as};
 
 use jground::jbase::Seq;
 use jlib::ThreadCall;
 use jlibcalls::jthreading::{Threaded, join, start, yield_turn};
-use jmodel::jguests::{Turned, guest_laws};
-use jmodel::jrun::Came;
+use jruntime::jguests::{Turned, guest_laws};
+use jruntime::jrun::Came;
 use jstepping::jcore::{Machine, machine_laws, raise};
 use std::alloc::{AllocError, Global};
 
 /// Does a call of Thread that makes none, by the threads of the machine.
-#[tactic(auto, using(crate::proofs::Standing::may_call))]
+#[tactic(auto, using(crate::proofs::ThreadInvariants::may_call))]
 fn turn_threads<M: Copy>(
     m: &mut Machine<'_, '_, M>,
     call: ThreadCall,

@@ -1,7 +1,7 @@
 ghost use Rattle.std.specs.Prelude.{◌≡◌, MatchResult};
 ghost use Rattle.jlib.specs.declared.side.Side.TheVariants as sides;
-ghost use Rattle.jtyping.specs.Typed.{ProgramIsTyped};
-ghost use Rattle.jtyping.specs.Typing.{WellTyped};
+ghost use Rattle.jtyping.specs.jwelltyped.WellTypedness.{ProgramIsTyped};
+ghost use Rattle.jtyping.specs.jwelltyped.VerifierTests.{WellTyped};
 
 use jlib::Side;
 use jlinking::jlink::LinkedProgram;
@@ -14,8 +14,8 @@ pub struct CheckedProgram {
 }
 
 impl Model for CheckedProgram {
-    ghost use Rattle.jprogram.specs.Classes.{Program};
-    ghost use Rattle.jtyping.specs.Typing.{WellTyped};
+    ghost use Rattle.jresolution.specs.jprogram.ProgramClasses.{Program};
+    ghost use Rattle.jtyping.specs.jwelltyped.VerifierTests.{WellTyped};
 
     ghost Value = { Program };
 
@@ -34,8 +34,8 @@ pub struct PlainProgram {
 impl Model for PlainProgram {
     ghost use Rattle.std.specs.Prelude.{◌≡◌};
     ghost use Rattle.jlib.specs.declared.side.Side.TheVariants.{Passing};
-    ghost use Rattle.jprogram.specs.Classes.{Program};
-    ghost use Rattle.jtyping.specs.Typing.{WellTyped};
+    ghost use Rattle.jresolution.specs.jprogram.ProgramClasses.{Program};
+    ghost use Rattle.jtyping.specs.jwelltyped.VerifierTests.{WellTyped};
 
     ghost Value = { Program };
 

@@ -1,18 +1,18 @@
 -- The laws of flags and of attributes as formats.
 use Rattle.std.proofs.Common.{◌≡◌, ℕ, Bool, ◌⊎◌, List, Some, refl, ap, inl, inr}
 use Rattle.jground.specs.jformat.Format.{◌·◌, ◌▹◌}
-use Rattle.jground.proofs.JformatProofs.Laws.{IsFormat, pair_law, then_law, via_law, as_case_law}
+use Rattle.jground.proofs.JformatProofs.FormatLaws.{IsFormat, pair_law, then_law, via_law, as_case_law}
 use Rattle.jparts.specs.declared.jpool.entry.Entry.{Entry}
-use Rattle.jparts.specs.jpool.Pools.{is_utf8}
+use Rattle.jparts.specs.jpool.ConstantPools.{is_utf8}
 use Rattle.jclass.specs.declared.access.Access.{Access}
 use Rattle.jclass.specs.declared.class.Attribute.{Attribute}
 use Rattle.jclass.specs.declared.class.Attribute.TheVariants.{ConstantValue, Code, Raw}
 use Rattle.jclass.specs.declared.fault.ClassFault.TheVariants.{Index}
-use Rattle.jclass.specs.Basics.{u2, run, access}
+use Rattle.jclass.specs.IndexFormats.{u2, run, access}
 use Rattle.jclass.specs.Attributes.{text_index, name_once, content, class_attribute, constant, constant_from, constant_parts, is_constant, field_attribute}
 use Rattle.jclass.specs.ProofNames.{raw_parts}
 use Rattle.jclass.specs.AttributeLaws.{u2_law, run_law, index_law, content_law, name_once_law, constant_law}
-use Rattle.jground.specs.jformat.Cases.{two_of}
+use Rattle.jground.specs.jformat.UnionFormats.{two_of}
 
 pub access_law : IsFormat access
 access_law = via_law _ _ u2 (λ n fit. refl) (λ a fit. refl) u2_law

@@ -2,21 +2,21 @@
 use Rattle.std.proofs.Common.{◌≡◌, ℕ, ◌-◌, ◌≤◌, Bool, true, false, ◌⊎◌, List, [], ◌∷◌, ◌++◌, length, Option, Some, None, Ok, Err, refl, sym, ap, subst, ◌∙◌, arith, inl, inr}
 use Rattle.std.specs.Prelude.{IsTrue, is_some, option_map, slice_get, option_and_then}
 use Rattle.std.proofs.lemmas.List.{append-nil}
-use Rattle.jground.specs.jbase.First.{or_else}
+use Rattle.jground.specs.jbase.FirstFaults.{or_else}
 use Rattle.jground.specs.declared.jformat.error.Fault.{Fault}
 use Rattle.jground.specs.jformat.Format.{IsBytes, Format, ◌·◌, ◌▹◌, is_good}
-use Rattle.jground.specs.jformat.Bodies.{whole, counted}
-use Rattle.jground.specs.jformat.States.{counted_from}
-use Rattle.jground.proofs.JformatProofs.Steps.{bind_ok, bind_err, ok_is, both, first_true, second_true, unless_ok, unless_err}
-use Rattle.jground.proofs.JformatProofs.Laws.{Takes, IsFormat, pair_law, then_law, via_law, such_law, as_case_law, literal_law}
+use Rattle.jground.specs.jformat.BodyFormats.{whole, counted}
+use Rattle.jground.specs.jformat.StatefulFormats.{counted_from}
+use Rattle.jground.proofs.JformatProofs.ReadingSteps.{bind_ok, bind_err, ok_is, both, first_true, second_true, unless_ok, unless_err}
+use Rattle.jground.proofs.JformatProofs.FormatLaws.{Takes, IsFormat, pair_law, then_law, via_law, such_law, as_case_law, literal_law}
 use Rattle.jground.proofs.JformatProofs.Blocks.{IsBody, whole_law, counted_law}
-use Rattle.jground.proofs.JformatProofs.Stateful.{counted_from_law}
+use Rattle.jground.proofs.JformatProofs.StatefulFormats.{counted_from_law}
 use Rattle.jground.proofs.JformatProofs.Skims.{Skims, skims_itself, skims_such, skims_pair, skims_then, skims_counted, passes_law, ahead_law}
 use Rattle.jparts.specs.declared.jpool.entry.Entry.{Entry}
-use Rattle.jparts.specs.jpool.Entries
-use Rattle.jparts.specs.jpool.Entries.{size, utf8_parts}
-use Rattle.jparts.specs.jpool.Pools
-use Rattle.jparts.specs.jpool.Pools.{IsPool, faulty, first_fault, is_utf8, name_fault, utf8_at}
+use Rattle.jparts.specs.jpool.PoolEntries
+use Rattle.jparts.specs.jpool.PoolEntries.{size, utf8_parts}
+use Rattle.jparts.specs.jpool.ConstantPools
+use Rattle.jparts.specs.jpool.ConstantPools.{IsPool, faulty, first_fault, is_utf8, name_fault, utf8_at}
 use Rattle.jparts.specs.declared.jpool.entry.Entry.TheVariants.{Class}
 use Rattle.jparts.proofs.JpoolProofs.EntryLaws.{shape_law}
 use Rattle.jparts.proofs.JpoolProofs.PoolLaws.{none_is_good, good_is_none, at_index}
@@ -26,21 +26,21 @@ use Rattle.jclass.specs.declared.class.CodeBody.{CodeBody}
 use Rattle.jclass.specs.declared.class.ClassParts.{ClassParts}
 use Rattle.jclass.specs.declared.fault.ClassFault.{ClassFault}
 use Rattle.jclass.specs.declared.fault.ClassFault.TheVariants.{Trailing, Magic}
-use Rattle.jclass.specs.Basics.{u2, u4, run, access, index, told, told_as, pool_fault}
-use Rattle.jclass.specs.Rules.{names_class, names_super, is_code, field_descriptor, method_descriptor}
-use Rattle.jclass.specs.Shapes
-use Rattle.jclass.specs.Shapes.{HeadParts, major, entries, shape, has_shape}
+use Rattle.jclass.specs.IndexFormats.{u2, u4, run, access, index, told, told_as, pool_fault}
+use Rattle.jclass.specs.FlagRules.{names_class, names_super, is_code, field_descriptor, method_descriptor}
+use Rattle.jclass.specs.ClassFileShape
+use Rattle.jclass.specs.ClassFileShape.{HeadParts, major, entries, shape, has_shape}
 use Rattle.jclass.specs.ProofNames.{magic, names_of}
-use Rattle.jclass.specs.Judging
-use Rattle.jclass.specs.Judging.{entry_fault, no_fault, judged}
+use Rattle.jclass.specs.PoolChecks
+use Rattle.jclass.specs.PoolChecks.{entry_fault, no_fault, judged}
 use Rattle.jclass.specs.Attributes.{text_index, content, class_attribute, field_attribute, saw_constant}
-use Rattle.jclass.specs.Codes.{code_body}
-use Rattle.jclass.specs.Members.{member_from, member_parts, field, code_from, code_parts, method_attribute, method_parts, names_at, codes_fault, method}
+use Rattle.jclass.specs.CodeFormat.{code_body}
+use Rattle.jclass.specs.MemberFormat.{member_from, member_parts, field, code_from, code_parts, method_attribute, method_parts, names_at, codes_fault, method}
 use Rattle.jclass.specs.Class.{TailParts, tail, class_from, class_parts, strict, class_file, Spells}
 use Rattle.jclass.specs.AttributeLaws.{u2_law, u4_law, run_law, index_law, content_law}
 use Rattle.jclass.proofs.AttributeLaws.{access_law, class_attribute_law, field_attribute_law}
 use Rattle.jclass.specs.CodeLaws.{told_ok, told_err, code_body_law}
-use Rattle.jclass.proofs.Shaped.{field_skim, method_skim, attributes_skim, names_over, names_reading}
+use Rattle.jclass.proofs.ShapeCoverage.{field_skim, method_skim, attributes_skim, names_over, names_reading}
 
 -- ---- other names of faults
 
@@ -99,10 +99,10 @@ major_law = such_law _ u2 u2_law
 
 entries_law : IsFormat entries
 unfolding entries
-entries_law = told_law pool_fault Entries.shape shape_law
+entries_law = told_law pool_fault PoolEntries.shape shape_law
 
-pub head_law : IsFormat Shapes.head
-unfolding Shapes.head
+pub head_law : IsFormat ClassFileShape.head
+unfolding ClassFileShape.head
 head_law = pair_law magic (u2 · major · entries) magic_law (pair_law u2 (major · entries) u2_law (pair_law major entries major_law entries_law))
 
 fault_here : {K : Type 0} (left : ℕ) (o : Option K) (later : Option (Fault K)) (d : Fault K) → ((later ≡ Some d) → d.left ≤ left) → or_else (faulty left o) later ≡ Some d → d.left ≤ left
@@ -114,56 +114,56 @@ unfolding first_fault
 first_within test left [] d h = absurd cc
 first_within test left (e ∷ es) d h = fault_here left (test e) (first_fault test (left - size e) es) d (λ k. let le = first_within test (left - size e) es d k in omega arith) h
 
-judged_takes : (bytes : List ℕ) (x : HeadParts × List ℕ) → IsBytes bytes → Judging.head.read bytes ≡ Ok x → Takes Judging.head.spell Judging.head.fits bytes x
-unfolding Judging.head no_fault
+judged_takes : (bytes : List ℕ) (x : HeadParts × List ℕ) → IsBytes bytes → PoolChecks.head.read bytes ≡ Ok x → Takes PoolChecks.head.spell PoolChecks.head.fits bytes x
+unfolding PoolChecks.head no_fault
 judged_takes bytes x fits e =
-    let a = bind_ok (Shapes.head.read bytes) (judged (length bytes - 10)) x e in
+    let a = bind_ok (ClassFileShape.head.read bytes) (judged (length bytes - 10)) x e in
     let s = head_law.takes bytes a.0 fits a.1 in
     let u = unless_ok a.0 x (first_fault (entry_fault a.0.0.1.1.1) (length bytes - 10) a.0.0.1.1.1) a.2 in
     let good = none_is_good (entry_fault a.0.0.1.1.1) (length bytes - 10) a.0.0.1.1.1 u.0 in
-    let all : Takes Judging.head.spell Judging.head.fits bytes a.0 = record { parts = s.parts; rest_fits = s.rest_fits; fit = both _ _ s.fit good } in
-    subst (λ (y : HeadParts × List ℕ). Takes Judging.head.spell Judging.head.fits bytes y) u.1 all
+    let all : Takes PoolChecks.head.spell PoolChecks.head.fits bytes a.0 = record { parts = s.parts; rest_fits = s.rest_fits; fit = both _ _ s.fit good } in
+    subst (λ (y : HeadParts × List ℕ). Takes PoolChecks.head.spell PoolChecks.head.fits bytes y) u.1 all
 
-judged_again : (h : HeadParts) (rest : List ℕ) → IsTrue (Judging.head.fits h) → Judging.head.read (Judging.head.spell h ++ rest) ≡ Ok (h, rest)
-unfolding Judging.head no_fault
+judged_again : (h : HeadParts) (rest : List ℕ) → IsTrue (PoolChecks.head.fits h) → PoolChecks.head.read (PoolChecks.head.spell h ++ rest) ≡ Ok (h, rest)
+unfolding PoolChecks.head no_fault
 judged_again h rest fit =
-    let one : Shapes.head.read (Shapes.head.spell h ++ rest) ≡ Ok (h, rest) = head_law.again h rest (first_true (Shapes.head.fits h) (no_fault h.1.1.1) fit) in
-    let none = good_is_none (entry_fault h.1.1.1) (length (Shapes.head.spell h ++ rest) - 10) h.1.1.1 (second_true (Shapes.head.fits h) (no_fault h.1.1.1) fit) in
+    let one : ClassFileShape.head.read (ClassFileShape.head.spell h ++ rest) ≡ Ok (h, rest) = head_law.again h rest (first_true (ClassFileShape.head.fits h) (no_fault h.1.1.1) fit) in
+    let none = good_is_none (entry_fault h.1.1.1) (length (ClassFileShape.head.spell h ++ rest) - 10) h.1.1.1 (second_true (ClassFileShape.head.fits h) (no_fault h.1.1.1) fit) in
     rw (one, none) refl
 
-judged_within : (bytes : List ℕ) (d : Fault ClassFault) → Judging.head.read bytes ≡ Err d → d.left ≤ length bytes
-unfolding Judging.head
+judged_within : (bytes : List ℕ) (d : Fault ClassFault) → PoolChecks.head.read bytes ≡ Err d → d.left ≤ length bytes
+unfolding PoolChecks.head
 judged_within bytes d e =
-    elim (bind_err (Shapes.head.read bytes) (judged (length bytes - 10)) d e) [
+    elim (bind_err (ClassFileShape.head.read bytes) (judged (length bytes - 10)) d e) [
       | inl h ↦ head_law.reading.within bytes d h
       | inr h ↦
           let le = first_within (entry_fault h.0.0.1.1.1) (length bytes - 10) h.0.0.1.1.1 d (unless_err h.0 d (first_fault (entry_fault h.0.0.1.1.1) (length bytes - 10) h.0.0.1.1.1) h.2) in
           omega arith
     ]
 
-judged_shorter : (bytes : List ℕ) (x : HeadParts × List ℕ) → Judging.head.read bytes ≡ Ok x → length x.1 ≤ length bytes
-unfolding Judging.head
+judged_shorter : (bytes : List ℕ) (x : HeadParts × List ℕ) → PoolChecks.head.read bytes ≡ Ok x → length x.1 ≤ length bytes
+unfolding PoolChecks.head
 judged_shorter bytes x e =
-    let a = bind_ok (Shapes.head.read bytes) (judged (length bytes - 10)) x e in
+    let a = bind_ok (ClassFileShape.head.read bytes) (judged (length bytes - 10)) x e in
     let u = unless_ok a.0 x (first_fault (entry_fault a.0.0.1.1.1) (length bytes - 10) a.0.0.1.1.1) a.2 in
     subst (λ (y : HeadParts × List ℕ). length y.1 ≤ length bytes) u.1 (head_law.reading.shorter bytes a.0 a.1)
 
-judged_law : IsFormat Judging.head
+judged_law : IsFormat PoolChecks.head
 judged_law = record { takes = judged_takes; again = judged_again; reading = record { within = judged_within; shorter = judged_shorter } }
 
-judged_skim : Skims Shapes.head Judging.head
-unfolding Judging.head
-judged_skim = λ h rest fit. (h, head_law.again h rest (first_true (Shapes.head.fits h) (no_fault h.1.1.1) fit))
+judged_skim : Skims ClassFileShape.head PoolChecks.head
+unfolding PoolChecks.head
+judged_skim = λ h rest fit. (h, head_law.again h rest (first_true (ClassFileShape.head.fits h) (no_fault h.1.1.1) fit))
 
 -- ---- the tail
 
-shape_tail_law : IsFormat Shapes.tail
-unfolding Shapes.tail
+shape_tail_law : IsFormat ClassFileShape.tail
+unfolding ClassFileShape.tail
 shape_tail_law =
-    let attributes = counted_law u2 Shapes.attribute u2_law (pair_law u2 run u2_law run_law) in
-    let members = counted_law u2 Shapes.member u2_law (pair_law u2 _ u2_law (pair_law u2 _ u2_law (pair_law u2 (counted u2 Shapes.attribute) u2_law attributes))) in
+    let attributes = counted_law u2 ClassFileShape.attribute u2_law (pair_law u2 run u2_law run_law) in
+    let members = counted_law u2 ClassFileShape.member u2_law (pair_law u2 _ u2_law (pair_law u2 _ u2_law (pair_law u2 (counted u2 ClassFileShape.attribute) u2_law attributes))) in
     pair_law u2 _ u2_law (pair_law u2 _ u2_law (pair_law u2 _ u2_law (pair_law (counted u2 u2) _ (counted_law u2 u2 u2_law u2_law)
-    (pair_law (counted u2 Shapes.member) _ members (pair_law (counted u2 Shapes.member) (counted u2 Shapes.attribute) members attributes)))))
+    (pair_law (counted u2 ClassFileShape.member) _ members (pair_law (counted u2 ClassFileShape.member) (counted u2 ClassFileShape.attribute) members attributes)))))
 
 tail_law : (pool : List Entry) → IsFormat (tail pool)
 unfolding tail
@@ -179,30 +179,30 @@ flags_skim = λ a rest fit. (a.0, u2_law.again a.0 rest fit)
 index_skim : (test : ℕ → Bool) → Skims u2 (index test)
 index_skim test = skims_such u2 _ u2 (skims_itself u2 u2_law)
 
-tail_skim : (pool : List Entry) → Skims Shapes.tail (tail pool)
-unfolding Shapes.tail tail
+tail_skim : (pool : List Entry) → Skims ClassFileShape.tail (tail pool)
+unfolding ClassFileShape.tail tail
 tail_skim pool =
-    skims_pair u2 (u2 · u2 · counted u2 u2 · counted u2 Shapes.member · counted u2 Shapes.member · counted u2 Shapes.attribute)
+    skims_pair u2 (u2 · u2 · counted u2 u2 · counted u2 ClassFileShape.member · counted u2 ClassFileShape.member · counted u2 ClassFileShape.attribute)
     access (index (names_class pool) · index (names_super pool) · counted u2 (index (names_class pool)) · counted u2 (field pool) · counted u2 (method pool) · counted u2 (class_attribute pool)) flags_skim
-    (skims_pair u2 (u2 · counted u2 u2 · counted u2 Shapes.member · counted u2 Shapes.member · counted u2 Shapes.attribute)
+    (skims_pair u2 (u2 · counted u2 u2 · counted u2 ClassFileShape.member · counted u2 ClassFileShape.member · counted u2 ClassFileShape.attribute)
     (index (names_class pool)) (index (names_super pool) · counted u2 (index (names_class pool)) · counted u2 (field pool) · counted u2 (method pool) · counted u2 (class_attribute pool)) (index_skim (names_class pool))
-    (skims_pair u2 (counted u2 u2 · counted u2 Shapes.member · counted u2 Shapes.member · counted u2 Shapes.attribute)
+    (skims_pair u2 (counted u2 u2 · counted u2 ClassFileShape.member · counted u2 ClassFileShape.member · counted u2 ClassFileShape.attribute)
     (index (names_super pool)) (counted u2 (index (names_class pool)) · counted u2 (field pool) · counted u2 (method pool) · counted u2 (class_attribute pool)) (index_skim (names_super pool))
-    (skims_pair (counted u2 u2) (counted u2 Shapes.member · counted u2 Shapes.member · counted u2 Shapes.attribute)
+    (skims_pair (counted u2 u2) (counted u2 ClassFileShape.member · counted u2 ClassFileShape.member · counted u2 ClassFileShape.attribute)
     (counted u2 (index (names_class pool))) (counted u2 (field pool) · counted u2 (method pool) · counted u2 (class_attribute pool)) (skims_counted u2 u2 (index (names_class pool)) u2_law (index_skim (names_class pool)))
-    (skims_pair (counted u2 Shapes.member) (counted u2 Shapes.member · counted u2 Shapes.attribute)
-    (counted u2 (field pool)) (counted u2 (method pool) · counted u2 (class_attribute pool)) (skims_counted u2 Shapes.member (field pool) u2_law (field_skim pool))
-    (skims_pair (counted u2 Shapes.member) (counted u2 Shapes.attribute) (counted u2 (method pool)) (counted u2 (class_attribute pool)) (skims_counted u2 Shapes.member (method pool) u2_law (method_skim pool)) (attributes_skim pool))))))
+    (skims_pair (counted u2 ClassFileShape.member) (counted u2 ClassFileShape.member · counted u2 ClassFileShape.attribute)
+    (counted u2 (field pool)) (counted u2 (method pool) · counted u2 (class_attribute pool)) (skims_counted u2 ClassFileShape.member (field pool) u2_law (field_skim pool))
+    (skims_pair (counted u2 ClassFileShape.member) (counted u2 ClassFileShape.attribute) (counted u2 (method pool)) (counted u2 (class_attribute pool)) (skims_counted u2 ClassFileShape.member (method pool) u2_law (method_skim pool)) (attributes_skim pool))))))
 
 -- ---- the class file
 
 strict_law : IsFormat strict
 unfolding strict
-strict_law = via_law class_from class_parts (Judging.head ▹ λ h. tail h.1.1.1) (λ p fit. refl) (λ c fit. refl) (then_law Judging.head (λ h. tail h.1.1.1) judged_law (λ h. tail_law h.1.1.1))
+strict_law = via_law class_from class_parts (PoolChecks.head ▹ λ h. tail h.1.1.1) (λ p fit. refl) (λ c fit. refl) (then_law PoolChecks.head (λ h. tail h.1.1.1) judged_law (λ h. tail_law h.1.1.1))
 
 pub shape_body_law : IsBody shape
 unfolding shape
-shape_body_law = whole_law Trailing (Shapes.head · Shapes.tail) (pair_law Shapes.head Shapes.tail head_law shape_tail_law)
+shape_body_law = whole_law Trailing (ClassFileShape.head · ClassFileShape.tail) (pair_law ClassFileShape.head ClassFileShape.tail head_law shape_tail_law)
 
 pub strict_body_law : IsBody (whole Trailing strict)
 strict_body_law = whole_law Trailing strict strict_law
@@ -210,10 +210,10 @@ strict_body_law = whole_law Trailing strict strict_law
 shape_over : (c : ClassParts) → IsTrue ((whole Trailing strict).fits c) → has_shape ((whole Trailing strict).spell c) ≡ Ok tt
 unfolding strict shape
 shape_over c fit =
-    let s = skims_then Shapes.head Shapes.tail Judging.head (λ h. tail h.1.1.1) judged_skim (λ h. tail_skim h.1.1.1) (class_parts c) [] fit in
+    let s = skims_then ClassFileShape.head ClassFileShape.tail PoolChecks.head (λ h. tail h.1.1.1) judged_skim (λ h. tail_skim h.1.1.1) (class_parts c) [] fit in
     let eq = s.1 in
-    let text : List ℕ = Judging.head.spell (class_parts c).0 ++ (tail c.pool).spell (class_parts c).1 in
-    let one : (Shapes.head · Shapes.tail).read text ≡ Ok (s.0, []) = ap (Shapes.head · Shapes.tail).read (sym (append-nil text)) ∙ eq in
+    let text : List ℕ = PoolChecks.head.spell (class_parts c).0 ++ (tail c.pool).spell (class_parts c).1 in
+    let one : (ClassFileShape.head · ClassFileShape.tail).read text ≡ Ok (s.0, []) = ap (ClassFileShape.head · ClassFileShape.tail).read (sym (append-nil text)) ∙ eq in
     rw one refl
 
 has_shape_within : (bytes : List ℕ) (d : Fault ClassFault) → has_shape bytes ≡ Err d → d.left ≤ length bytes
@@ -243,11 +243,11 @@ named_good None h = absurd cc
 named_good (Some text) h = refl
 
 class_named : (pool : List Entry) (name : ℕ) → is_good (entry_fault pool (Class name)) ≡ true → IsTrue (is_utf8 pool name)
-unfolding entry_fault Pools.entry_fault utf8_at is_utf8
+unfolding entry_fault ConstantPools.entry_fault utf8_at is_utf8
 class_named pool name h = named_good (option_and_then utf8_parts (slice_get pool name)) h
 
-pub head_pool : (bytes rest : List ℕ) (h : HeadParts) (left : ℕ) → IsBytes bytes → Shapes.head.read bytes ≡ Ok (h, rest) → first_fault (entry_fault h.1.1.1) left h.1.1.1 ≡ None → IsPool h.1.1.1
-unfolding Shapes.head entries
+pub head_pool : (bytes rest : List ℕ) (h : HeadParts) (left : ℕ) → IsBytes bytes → ClassFileShape.head.read bytes ≡ Ok (h, rest) → first_fault (entry_fault h.1.1.1) left h.1.1.1 ≡ None → IsPool h.1.1.1
+unfolding ClassFileShape.head entries
 head_pool bytes rest h left fits e none =
     let s = head_law.takes bytes (h, rest) fits e in
     let a = second_true (magic.fits h.0) ((u2 · major · entries).fits h.1) s.fit in

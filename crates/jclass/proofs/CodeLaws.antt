@@ -4,23 +4,23 @@ use Rattle.std.specs.Prelude.{IsTrue}
 use Rattle.std.specs.List.{list_all}
 use Rattle.std.proofs.lemmas.List.{take_at}
 use Rattle.jground.specs.declared.jformat.error.Fault.{Fault}
-use Rattle.jground.specs.jbase.Stops.{◌>>=◌}
+use Rattle.jground.specs.jbase.MemoryFailures.{◌>>=◌}
 use Rattle.jground.specs.jformat.Format.{IsBytes, run_at, is_good}
-use Rattle.jground.specs.jformat.Bodies.{Body, outward, inner_at}
-use Rattle.jground.proofs.JformatProofs.Steps.{IsBytes-take, bind_ok, ok_is, first_true}
+use Rattle.jground.specs.jformat.BodyFormats.{Body, outward, inner_at}
+use Rattle.jground.proofs.JformatProofs.ReadingSteps.{IsBytes-take, bind_ok, ok_is, first_true}
 use Rattle.jground.proofs.JformatProofs.Blocks.{IsBody, run_is}
 use Rattle.jparts.specs.declared.jmaps.types.MapType.{MapType}
 use Rattle.jparts.specs.declared.jmaps.types.RawFrame.{RawFrame}
-use Rattle.jparts.specs.jmaps.Frames
-use Rattle.jparts.specs.jmaps.Frames.{frames, map_kinds, map_type, own_type}
+use Rattle.jparts.specs.jmaps.StackMapFormat
+use Rattle.jparts.specs.jmaps.StackMapFormat.{frames, map_kinds, map_type, own_type}
 use Rattle.jparts.proofs.JmapsProofs.MapLaws.{frames_spelling, frames_fitting}
 use Rattle.jparts.specs.declared.jpool.entry.Entry.{Entry}
 use Rattle.jparts.specs.declared.jcode.op.Placed.{Placed}
 use Rattle.jparts.specs.jcode.Instructions
-use Rattle.jclass.specs.Operands.{names_well}
+use Rattle.jclass.specs.PoolOperands.{names_well}
 use Rattle.jclass.specs.declared.fault.ClassFault.{ClassFault}
 use Rattle.jclass.specs.declared.fault.ClassFault.TheVariants.{Truncated}
-use Rattle.jclass.specs.Codes.{frame_kinds, plain_type, type_fault, named_type, maps, ops, code_length}
+use Rattle.jclass.specs.CodeFormat.{frame_kinds, plain_type, type_fault, named_type, maps, ops, code_length}
 use Rattle.jclass.specs.CodeLaws.{plain_law, named_law, named_spelling, named_fitting, code_length_law, ops_law}
 
 -- ---- frames
@@ -44,12 +44,12 @@ named_fits_own : (pool : List Entry) (t : MapType) → IsTrue ((named_type pool)
 unfolding map_type
 named_fits_own pool t f = first_true (plain_type.fits t) (is_good (type_fault pool t)) f
 
-pub maps_spelling : (pool : List Entry) (fs : List RawFrame) → (maps pool).spell fs ≡ Frames.maps.spell fs
-unfolding maps Frames.maps
+pub maps_spelling : (pool : List Entry) (fs : List RawFrame) → (maps pool).spell fs ≡ StackMapFormat.maps.spell fs
+unfolding maps StackMapFormat.maps
 maps_spelling pool fs = frames_spelling frame_kinds map_kinds (named_type pool) own_type (named_as_own pool) fs
 
-pub maps_fitting : (pool : List Entry) (fs : List RawFrame) → IsTrue ((maps pool).fits fs) → IsTrue (Frames.maps.fits fs)
-unfolding maps Frames.maps
+pub maps_fitting : (pool : List Entry) (fs : List RawFrame) → IsTrue ((maps pool).fits fs) → IsTrue (StackMapFormat.maps.fits fs)
+unfolding maps StackMapFormat.maps
 maps_fitting pool fs fit = frames_fitting frame_kinds map_kinds (named_type pool) own_type (named_fits_own pool) fs fit
 
 -- ---- code

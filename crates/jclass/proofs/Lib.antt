@@ -1,8 +1,8 @@
 pub mod AttributeLaws
 pub mod ClassLaws
 pub mod CodeLaws
-pub mod Passing
-pub mod Shaped
-pub mod Stored
+pub mod FirstPass
+pub mod ShapeCoverage
+pub mod FittingClasses
 pub mod Texts
-pub mod Unseen
+pub mod SkippedValues

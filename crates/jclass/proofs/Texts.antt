@@ -1,14 +1,14 @@
 -- A loop over the groups of a text.
 use Rattle.std.proofs.Common.{◌≡◌, ℕ, zero, suc, ◌+◌, ◌-◌, ◌≤◌, ◌<◌, Bool, true, false, eqb, List, [], ◌∷◌, length, Some, None, Result, Ok, Err, refl, sym, ap, ◌∙◌, arith}
 use Rattle.std.specs.Result.{is_ok}
-use Rattle.jground.specs.jbase.Stops.{◌>>=◌}
+use Rattle.jground.specs.jbase.MemoryFailures.{◌>>=◌}
 use Rattle.jground.specs.declared.jformat.error.Fault.{Fault}
 use Rattle.jground.specs.jformat.Format.{Answer}
-use Rattle.jground.specs.jformat.Bodies.{many_at}
+use Rattle.jground.specs.jformat.BodyFormats.{many_at}
 use Rattle.jground.proofs.JformatProofs.Blocks.{many_some}
-use Rattle.jground.proofs.JformatProofs.Turns.{is_none, is_some}
+use Rattle.jground.proofs.JformatProofs.ReadingLoops.{is_none, is_some}
 use Rattle.jground.specs.jtext.Modified.{unit_at}
-use Rattle.jclass.specs.Judging.{is_modified, behind}
+use Rattle.jclass.specs.PoolChecks.{is_modified, behind}
 
 abbrev pub rest_is_text : ℕ → List ℕ → Bool
 rest_is_text n bytes = is_ok (many_at tt unit_at n bytes)

@@ -4,15 +4,15 @@ use Rattle.std.specs.Prelude.{IsTrue}
 use Rattle.std.specs.Int.{w16, w32}
 use Rattle.jground.specs.declared.jformat.error.Fault.{Fault}
 use Rattle.jground.specs.jformat.Format.{Format, unless}
-use Rattle.jground.specs.jformat.Bodies.{Body, block}
-use Rattle.jground.proofs.JformatProofs.Laws.{Takes, IsFormat, wide16, wide32, number_law, such_law, ok_reading}
-use Rattle.jground.proofs.JformatProofs.Steps.{bind_ok, ok_is}
+use Rattle.jground.specs.jformat.BodyFormats.{Body, block}
+use Rattle.jground.proofs.JformatProofs.FormatLaws.{Takes, IsFormat, wide16, wide32, number_law, such_law, ok_reading}
+use Rattle.jground.proofs.JformatProofs.ReadingSteps.{bind_ok, ok_is}
 use Rattle.jground.proofs.JformatProofs.Blocks.{IsBody, sized_law, block_law, whole_law}
 use Rattle.jparts.specs.declared.jpool.entry.Entry.{Entry}
 use Rattle.jclass.specs.declared.fault.ClassFault.{ClassFault}
 use Rattle.jclass.specs.declared.fault.ClassFault.TheVariants.{Truncated, Trailing, Index}
-use Rattle.jclass.specs.Basics.{u2, u4, run, index, by_test}
-use Rattle.jclass.specs.Rules.{suits_field}
+use Rattle.jclass.specs.IndexFormats.{u2, u4, run, index, by_test}
+use Rattle.jclass.specs.FlagRules.{suits_field}
 use Rattle.jclass.specs.Attributes.{name_once, content, constant}
 
 -- ---- numbers and indices

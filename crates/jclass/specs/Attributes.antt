@@ -2,17 +2,17 @@
 use Rattle.std.specs.Prelude.{ℕ, Bool, true, false, ◌&&◌, ◌⊎◌, List, Option, Some, None, if◌then◌else◌}
 use Rattle.std.proofs.Common.{inl, inr}
 use Rattle.jground.specs.jformat.Format.{Format, ◌·◌, ◌▹◌, as_case, such, unless}
-use Rattle.jground.specs.jformat.Bodies.{Body, whole, block}
+use Rattle.jground.specs.jformat.BodyFormats.{Body, whole, block}
 use Rattle.jparts.specs.declared.jpool.entry.Entry.{Entry}
-use Rattle.jparts.specs.jpool.Pools.{is_utf8}
+use Rattle.jparts.specs.jpool.ConstantPools.{is_utf8}
 use Rattle.jclass.specs.declared.access.Access.{Access}
 use Rattle.jclass.specs.declared.class.Attribute.{Attribute}
 use Rattle.jclass.specs.declared.class.Attribute.TheVariants.{ConstantValue, Raw}
 use Rattle.jclass.specs.declared.fault.ClassFault.{ClassFault}
 use Rattle.jclass.specs.declared.fault.ClassFault.TheVariants.{Truncated, Trailing, Index}
-use Rattle.jclass.specs.Basics.{u2, u4, run, index, by_test}
-use Rattle.jclass.specs.Rules.{is_static, is_constant_value, suits_field}
-use Rattle.jground.specs.jformat.Cases.{two_of}
+use Rattle.jclass.specs.IndexFormats.{u2, u4, run, index, by_test}
+use Rattle.jclass.specs.FlagRules.{is_static, is_constant_value, suits_field}
+use Rattle.jground.specs.jformat.UnionFormats.{two_of}
 
 -- ---- names
 

@@ -1,10 +1,10 @@
 -- A class file (JVMS 4.1): its spelling, and its first fault.
 use Rattle.std.specs.Prelude.{◌≡◌, ℕ, List, length, Result, Ok, ◌==◌, IsTrue, if◌then◌else◌}
 use Rattle.jground.specs.declared.jformat.error.Fault.{Fault}
-use Rattle.jground.specs.jbase.Stops.{◌>>=◌}
+use Rattle.jground.specs.jbase.MemoryFailures.{◌>>=◌}
 use Rattle.jground.specs.jformat.Format.{Answer, Format, fault, ◌·◌, ◌▹◌, via}
-use Rattle.jground.specs.jformat.Bodies.{Body, whole, counted}
-use Rattle.jground.specs.jformat.Passes.{passes}
+use Rattle.jground.specs.jformat.BodyFormats.{Body, whole, counted}
+use Rattle.jground.specs.jformat.RepeatedReads.{passes}
 use Rattle.jparts.specs.declared.jpool.entry.Entry.{Entry}
 use Rattle.jclass.specs.declared.access.Access.{Access}
 use Rattle.jclass.specs.declared.class.Attribute.{Attribute}
@@ -12,12 +12,12 @@ use Rattle.jclass.specs.declared.class.MemberInfo.{MemberInfo}
 use Rattle.jclass.specs.declared.class.ClassParts.{ClassParts}
 use Rattle.jclass.specs.declared.fault.ClassFault.{ClassFault}
 use Rattle.jclass.specs.declared.fault.ClassFault.TheVariants.{Trailing}
-use Rattle.jclass.specs.Basics.{u2, access, index}
-use Rattle.jclass.specs.Rules.{names_class, names_super}
-use Rattle.jclass.specs.Shapes.{HeadParts, has_shape}
-use Rattle.jclass.specs.Judging.{head}
+use Rattle.jclass.specs.IndexFormats.{u2, access, index}
+use Rattle.jclass.specs.FlagRules.{names_class, names_super}
+use Rattle.jclass.specs.ClassFileShape.{HeadParts, has_shape}
+use Rattle.jclass.specs.PoolChecks.{head}
 use Rattle.jclass.specs.Attributes.{class_attribute}
-use Rattle.jclass.specs.Members.{field, method}
+use Rattle.jclass.specs.MemberFormat.{field, method}
 
 abbrev pub TailParts : Type 0
 TailParts = Access × (ℕ × (ℕ × (List ℕ × (List MemberInfo × (List MemberInfo × List Attribute)))))

@@ -4,33 +4,33 @@ use Rattle.std.specs.Prelude.{IsTrue, ◌-◌}
 use Rattle.std.specs.List.{list_all}
 use Rattle.std.proofs.lemmas.Bool.{cases_Bool}
 use Rattle.jground.specs.declared.jformat.error.Fault.{Fault}
-use Rattle.jground.specs.jbase.First.{or_else, first_some}
+use Rattle.jground.specs.jbase.FirstFaults.{or_else, first_some}
 use Rattle.jground.specs.jformat.Format.{◌·◌, ◌▹◌, via, is_good, unless}
-use Rattle.jground.specs.jformat.Bodies.{block, counted}
-use Rattle.jground.specs.jformat.States.{counted_from}
-use Rattle.jground.proofs.JformatProofs.Steps.{bind_ok, bind_err, both, first_true, second_true}
-use Rattle.jground.proofs.JformatProofs.Laws.{IsFormat, pair_law, then_law, via_law, such_law}
+use Rattle.jground.specs.jformat.BodyFormats.{block, counted}
+use Rattle.jground.specs.jformat.StatefulFormats.{counted_from}
+use Rattle.jground.proofs.JformatProofs.ReadingSteps.{bind_ok, bind_err, both, first_true, second_true}
+use Rattle.jground.proofs.JformatProofs.FormatLaws.{IsFormat, pair_law, then_law, via_law, such_law}
 use Rattle.jground.proofs.JformatProofs.Blocks.{IsBody, block_law, whole_law, counted_law}
 use Rattle.jground.proofs.JformatProofs.Skims.{passes_law, ahead_law}
-use Rattle.jground.proofs.JformatProofs.Stateful.{counted_from_law}
+use Rattle.jground.proofs.JformatProofs.StatefulFormats.{counted_from_law}
 use Rattle.jparts.specs.declared.jmaps.types.RawFrame.{RawFrame}
-use Rattle.jparts.specs.jmaps.Frames.{frames}
+use Rattle.jparts.specs.jmaps.StackMapFormat.{frames}
 use Rattle.jparts.proofs.JmapsProofs.MapLaws.{type_law, frames_law, frames_spelling, frames_fitting}
 use Rattle.jparts.specs.declared.jpool.entry.Entry.{Entry}
 use Rattle.jparts.specs.declared.jcode.op.Placed.{Placed}
 use Rattle.jparts.specs.jcode.Instructions
 use Rattle.jparts.proofs.JcodeProofs.CodeLaws as coded
-use Rattle.jclass.specs.Operands.{names_well, misnamed}
+use Rattle.jclass.specs.PoolOperands.{names_well, misnamed}
 use Rattle.jclass.specs.declared.class.CodeAttribute.{CodeAttribute}
 use Rattle.jclass.specs.declared.class.CodeAttribute.TheVariants as code
 use Rattle.jclass.specs.declared.fault.ClassFault.{ClassFault}
 use Rattle.jclass.specs.declared.fault.ClassFault.TheVariants as kinds
 use Rattle.jclass.specs.declared.fault.ClassFault.TheVariants.{Truncated, Trailing, Index}
-use Rattle.jclass.specs.Basics.{u2, u4, index, told}
-use Rattle.jclass.specs.Rules.{names_caught, is_maps}
+use Rattle.jclass.specs.IndexFormats.{u2, u4, index, told}
+use Rattle.jclass.specs.FlagRules.{names_caught, is_maps}
 use Rattle.jclass.specs.Attributes.{name_once, content}
-use Rattle.jclass.specs.Codes.{frame_kinds, plain_type, type_fault, named_type, maps, attribute_from, attribute_parts, attribute, saw_maps, code_fault, none_misnamed, ops}
-use Rattle.jclass.specs.Codes.{handler_parts, target_fault, handler, code_length, behind_ops, code_content, code_body}
+use Rattle.jclass.specs.CodeFormat.{frame_kinds, plain_type, type_fault, named_type, maps, attribute_from, attribute_parts, attribute, saw_maps, code_fault, none_misnamed, ops}
+use Rattle.jclass.specs.CodeFormat.{handler_parts, target_fault, handler, code_length, behind_ops, code_content, code_body}
 use Rattle.jclass.specs.ProofNames.{length_fault}
 use Rattle.jclass.specs.AttributeLaws.{u2_law, u4_law, index_law, content_law, name_once_law}
 

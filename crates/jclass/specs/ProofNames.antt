@@ -7,10 +7,10 @@ use Rattle.jclass.specs.declared.class.Attribute.{Attribute}
 use Rattle.jclass.specs.declared.class.Attribute.TheVariants.{Raw}
 use Rattle.jclass.specs.declared.fault.ClassFault.{ClassFault}
 use Rattle.jclass.specs.declared.access.Access.{Access}
-use Rattle.jclass.specs.Rules.{has_no_code, suits}
+use Rattle.jclass.specs.FlagRules.{has_no_code, suits}
 use Rattle.jclass.specs.declared.class.MemberInfo.{MemberInfo}
-use Rattle.jclass.specs.Members.{attribute_name}
-use Rattle.jclass.specs.Basics.{u4}
+use Rattle.jclass.specs.MemberFormat.{attribute_name}
+use Rattle.jclass.specs.IndexFormats.{u4}
 use Rattle.jclass.specs.declared.fault.ClassFault.TheVariants.{Magic}
 use Rattle.jclass.specs.declared.fault.ClassFault.TheVariants as kinds
 
@@ -19,12 +19,12 @@ use Rattle.jclass.specs.declared.fault.ClassFault.TheVariants as kinds
 abbrev pub raw_parts : Attribute → Option (ℕ × List ℕ)
 raw_parts = elim [ Raw name bytes ↦ Some (name, bytes) | _ ↦ None ]
 
--- ---- of Codes
+-- ---- of CodeFormat
 
 abbrev pub length_fault : ℕ → Option ClassFault
 length_fault n = if n == 0 || nat_lt 0xffff n then Some kinds.Code else None
 
--- ---- of Members
+-- ---- of MemberFormat
 
 -- one code, or none for a method that is abstract or native
 abbrev pub codes_wanted : Access → ℕ
@@ -33,12 +33,12 @@ codes_wanted a = if has_no_code a then 0 else 1
 abbrev pub names_of : MemberInfo → Access × List ℕ
 names_of m = (m.flags, map attribute_name m.attributes)
 
--- ---- of Rules
+-- ---- of FlagRules
 
 abbrev pub suits_type : Option (List ℕ) → Option Entry → Bool
 suits_type x one = elim x [ None ↦ false | Some type ↦ suits type one ]
 
--- ---- of Shapes
+-- ---- of ClassFileShape
 
 abbrev pub magic : Format ClassFault (Unit {0})
 magic = literal u4 Magic 0xcafebabe

@@ -1,8 +1,8 @@
 ghost use Rattle.std.specs.Prelude.{◌≡◌, ◌&&◌};
-ghost use Rattle.jground.specs.jbase.Stops.{Gives};
-ghost use Rattle.jparts.specs.jpool.Pools.{is_utf8};
-ghost use Rattle.jclass.specs.Basics.{access, index, run};
-ghost use Rattle.jclass.specs.Rules.{suits_field};
+ghost use Rattle.jground.specs.jbase.MemoryFailures.{Gives};
+ghost use Rattle.jparts.specs.jpool.ConstantPools.{is_utf8};
+ghost use Rattle.jclass.specs.IndexFormats.{access, index, run};
+ghost use Rattle.jclass.specs.FlagRules.{suits_field};
 ghost use Rattle.jclass.specs.Attributes;
 ghost use Rattle.jclass.specs.Attributes.{class_attribute, constant, field_attribute, name_fault, name_once, saw_constant, text_index};
 ghost use Rattle.jclass.specs.AttributeLaws.{constant_law};
@@ -12,7 +12,7 @@ use crate::access::Access;
 use crate::class::Attribute;
 use crate::fault::ClassFault;
 use crate::fault::ClassFault::{Index, Trailing, Truncated};
-use crate::known::{Known, is_static};
+use crate::pool_info::{PoolInfo, is_static};
 use bitflags::Flags;
 use jground::jbase::Seq;
 use jground::jformat::{
@@ -30,7 +30,7 @@ pub fn access_of(bytes: &[u8]) -> Result<(Access, &[u8]), ReadError<ClassFault>>
 
 /// The index of a text.
 pub fn text_index_of<'a>(
-    known: &Known<'_>,
+    known: &PoolInfo<'_>,
     bytes: &'a [u8],
 ) -> Result<(u16, &'a [u8]), ReadError<ClassFault>>
     ensures { Gives (λ x. (x.0, x.1.now)) result ((text_index known.now).read bytes.now) }
@@ -67,7 +67,7 @@ pub fn bytes_of(alloc: Global, bytes: &[u8]) -> Result<(Seq<u8>, &[u8]), ReadErr
 #[tactic(auto, unfolding(crate::specs::Attributes::class_attribute))]
 fn class_attribute_of<'a>(
     alloc: Global,
-    known: &Known<'_>,
+    known: &PoolInfo<'_>,
     bytes: &'a [u8],
 ) -> Result<(Attribute, &'a [u8]), ReadError<ClassFault>>
     ensures { Gives (λ x. (x.0, x.1.now)) result ((class_attribute known.now).read bytes.now) }
@@ -80,7 +80,7 @@ fn class_attribute_of<'a>(
 /// Reads the attributes of a class.
 #[derive(Clone, Copy)]
 pub struct ClassAttributes<'r, 'p> {
-    pub known: &'r Known<'p>,
+    pub known: &'r PoolInfo<'p>,
 }
 
 impl<'r, 'p> Reader for ClassAttributes<'r, 'p> {
@@ -102,7 +102,7 @@ impl<'r, 'p> Reader for ClassAttributes<'r, 'p> {
 // ---- of a field
 
 fn constant_of<'a>(
-    known: &Known<'_>,
+    known: &PoolInfo<'_>,
     desc: u16,
     bytes: &'a [u8],
 ) -> Result<(u16, &'a [u8]), ReadError<ClassFault>>
@@ -117,7 +117,7 @@ fn constant_of<'a>(
 
 #[derive(Clone, Copy)]
 struct Constants<'r, 'p> {
-    known: &'r Known<'p>,
+    known: &'r PoolInfo<'p>,
     desc: u16,
 }
 
@@ -140,14 +140,14 @@ impl<'r, 'p> BodyReader for Constants<'r, 'p> {
 }
 
 /// Whether an attribute of this name is the constant value of a field with these flags.
-fn is_constant(known: &Known<'_>, flags: Access, name: u16) -> bool
+fn is_constant(known: &PoolInfo<'_>, flags: Access, name: u16) -> bool
     ensures { result ≡ Attributes.is_constant known.now flags name }
 {
     is_static(flags) && known.is_constant_value(name)
 }
 
 fn constant_name_of<'a>(
-    known: &Known<'_>,
+    known: &PoolInfo<'_>,
     flags: Access,
     seen: bool,
     bytes: &'a [u8],
@@ -166,7 +166,7 @@ fn constant_name_of<'a>(
 /// stood before.
 #[derive(Clone, Copy)]
 pub struct FieldAttributes<'r, 'p> {
-    pub known: &'r Known<'p>,
+    pub known: &'r PoolInfo<'p>,
     pub flags: Access,
     pub desc: u16,
 }

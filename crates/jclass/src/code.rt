@@ -1,15 +1,15 @@
 ghost use Rattle.std.specs.Prelude.{◌≡◌, ◌&&◌, false, nat_lt, length, IfOk, IsTrue};
-ghost use Rattle.jground.specs.jformat.Bodies.{block, counted};
+ghost use Rattle.jground.specs.jformat.BodyFormats.{block, counted};
 ghost use Rattle.jparts.specs.jcode.Instructions;
-ghost use Rattle.jground.specs.jformat.States.{counted_from};
-ghost use Rattle.jclass.specs.Basics.{u2};
-ghost use Rattle.jground.specs.jbase.Stops.{Gives};
-ghost use Rattle.jparts.specs.jmaps.Frames.{frames, map_type};
-ghost use Rattle.jclass.specs.Codes;
-ghost use Rattle.jclass.specs.Codes.{attribute, begins, code_body, code_content, code_fault, code_length, ends, handler, maps, named_type, ops, saw_maps, type_fault};
+ghost use Rattle.jground.specs.jformat.StatefulFormats.{counted_from};
+ghost use Rattle.jclass.specs.IndexFormats.{u2};
+ghost use Rattle.jground.specs.jbase.MemoryFailures.{Gives};
+ghost use Rattle.jparts.specs.jmaps.StackMapFormat.{frames, map_type};
+ghost use Rattle.jclass.specs.CodeFormat;
+ghost use Rattle.jclass.specs.CodeFormat.{attribute, begins, code_body, code_content, code_fault, code_length, ends, handler, maps, named_type, ops, saw_maps, type_fault};
 ghost use Rattle.jclass.specs.CodeLaws.{code_body_law, maps_law, ops_law};
 ghost use Rattle.jclass.specs.Attributes.{name_once};
-ghost use Rattle.jclass.specs.Rules;
+ghost use Rattle.jclass.specs.FlagRules;
 ghost use Rattle.jclass.specs.declared.fault.ClassFault.TheVariants as kinds;
 
 use crate::attribute::{bytes_of, name_fault_of};
@@ -18,10 +18,10 @@ use crate::fault::ClassFault;
 use crate::fault::ClassFault::{
     Code, Index, MapLeftOut, MapTag, Maps, Reserved, Target, Trailing, Truncated,
 };
-use crate::known::Known;
 use crate::operand::first_misnamed;
 use crate::places::Places;
-use jground::jbase::{Seq, Stop};
+use crate::pool_info::PoolInfo;
+use jground::jbase::{FaultOrMemory, Seq};
 use jground::jformat::{
     BodyReader, Fault, ReadError, Reader, StateReader, block_of, counted_of, fault, inner_of,
     times_by_of, u16_of, u32_of,
@@ -40,7 +40,7 @@ const KINDS: Kinds<ClassFault> = Kinds {
     trailing: Trailing,
 };
 
-fn type_fault_of(known: &Known<'_>, one: MapType) -> Option<ClassFault>
+fn type_fault_of(known: &PoolInfo<'_>, one: MapType) -> Option<ClassFault>
     ensures { result ≡ type_fault known.now one }
 {
     match one {
@@ -57,7 +57,7 @@ fn type_fault_of(known: &Known<'_>, one: MapType) -> Option<ClassFault>
 /// Reads types whose classes are in the pool.
 #[derive(Clone, Copy)]
 struct NamedTypes<'r, 'p> {
-    known: &'r Known<'p>,
+    known: &'r PoolInfo<'p>,
 }
 
 impl<'r, 'p> Reader for NamedTypes<'r, 'p> {
@@ -81,28 +81,28 @@ impl<'r, 'p> Reader for NamedTypes<'r, 'p> {
 }
 
 /// The frames that are all of a text, and whose classes are in the pool.
-#[tactic(auto, unfolding(crate::specs::Codes::maps, jparts::specs::jmaps::Frames::frames, jparts::specs::jmaps::Frames::frame))]
+#[tactic(auto, unfolding(crate::specs::CodeFormat::maps, jparts::specs::jmaps::StackMapFormat::frames, jparts::specs::jmaps::StackMapFormat::frame))]
 fn maps_of(
     alloc: Global,
-    known: &Known<'_>,
+    known: &PoolInfo<'_>,
     bytes: &[u8],
 ) -> Result<Seq<RawFrame>, ReadError<ClassFault>>
     ensures { Gives (λ x. x) result ((maps known.now).read bytes.now) }
 {
     match frames_of(alloc, &NamedTypes { known }, &KINDS, bytes) {
         Ok(found) => Ok(found),
-        Err(Stop::Memory) => Err(Stop::Memory),
-        Err(Stop::Fault(found)) => {
+        Err(FaultOrMemory::Memory) => Err(FaultOrMemory::Memory),
+        Err(FaultOrMemory::Fault(found)) => {
             // A fault of the frames themselves comes before a class that isn't there.
             let _plain = frames_of(alloc, &TypeReader { kinds: KINDS }, &KINDS, bytes)?;
-            Err(Stop::Fault(found))
+            Err(FaultOrMemory::Fault(found))
         }
     }
 }
 
 #[derive(Clone, Copy)]
 struct MapsReader<'r, 'p> {
-    known: &'r Known<'p>,
+    known: &'r PoolInfo<'p>,
 }
 
 impl<'r, 'p> BodyReader for MapsReader<'r, 'p> {
@@ -122,11 +122,11 @@ impl<'r, 'p> BodyReader for MapsReader<'r, 'p> {
 // ---- attributes
 
 fn maps_name_of<'a>(
-    known: &Known<'_>,
+    known: &PoolInfo<'_>,
     seen: bool,
     bytes: &'a [u8],
 ) -> Result<(u16, &'a [u8]), ReadError<ClassFault>>
-    ensures { Gives (λ x. (x.0, x.1.now)) result ((name_once known.now (Rules.is_maps known.now) kinds.Maps seen).read bytes.now) }
+    ensures { Gives (λ x. (x.0, x.1.now)) result ((name_once known.now (FlagRules.is_maps known.now) kinds.Maps seen).read bytes.now) }
 {
     let (i, rest) = u16_of(Truncated, bytes)?;
     let is_again = seen && known.is_maps(i);
@@ -136,10 +136,10 @@ fn maps_name_of<'a>(
     }
 }
 
-#[tactic(auto, unfolding(crate::specs::Codes::attribute))]
+#[tactic(auto, unfolding(crate::specs::CodeFormat::attribute))]
 fn attribute_of<'a>(
     alloc: Global,
-    known: &Known<'_>,
+    known: &PoolInfo<'_>,
     seen: bool,
     bytes: &'a [u8],
 ) -> Result<(CodeAttribute, &'a [u8]), ReadError<ClassFault>>
@@ -157,7 +157,7 @@ fn attribute_of<'a>(
 /// Reads the attributes of a code. The state says whether frames stood before.
 #[derive(Clone, Copy)]
 struct CodeAttributes<'r, 'p> {
-    known: &'r Known<'p>,
+    known: &'r PoolInfo<'p>,
 }
 
 impl<'r, 'p> StateReader for CodeAttributes<'r, 'p> {
@@ -197,9 +197,9 @@ fn lies_within(places: &Places<'_>, start: u32, end: u32, at: u32) -> bool
     start < end && places.begins(start) && places.ends(end) && places.begins(at)
 }
 
-#[tactic(auto, unfolding(crate::specs::Codes::handler))]
+#[tactic(auto, unfolding(crate::specs::CodeFormat::handler))]
 fn handler_of<'a>(
-    known: &Known<'_>,
+    known: &PoolInfo<'_>,
     places: &Places<'_>,
     bytes: &'a [u8],
 ) -> Result<(Handler, &'a [u8]), ReadError<ClassFault>>
@@ -229,7 +229,7 @@ fn handler_of<'a>(
 
 #[derive(Clone, Copy)]
 struct Handlers<'r, 'p> {
-    known: &'r Known<'p>,
+    known: &'r PoolInfo<'p>,
     places: &'r Places<'p>,
 }
 
@@ -274,10 +274,10 @@ fn code_fault(kind: CodeFault) -> ClassFault
 }
 
 /// The instructions that are all of a text, and whose entries are in the pool.
-#[tactic(auto, unfolding(crate::specs::Codes::ops))]
+#[tactic(auto, unfolding(crate::specs::CodeFormat::ops))]
 fn ops_in(
     alloc: Global,
-    known: &Known<'_>,
+    known: &PoolInfo<'_>,
     bytes: &[u8],
 ) -> Result<Seq<Placed>, ReadError<ClassFault>>
     ensures { Gives (λ x. x) result ((ops known.now).read bytes.now) }
@@ -287,14 +287,14 @@ fn ops_in(
             let found = Seq::from_vec(found);
             match first_misnamed(known, found.as_slice()) {
                 None => Ok(found),
-                Some(at) => Err(Stop::Fault(Fault {
+                Some(at) => Err(FaultOrMemory::Fault(Fault {
                     left: bytes.len().saturating_sub(at as usize),
                     kind: Index,
                 })),
             }
         }
-        Err(Stop::Memory) => Err(Stop::Memory),
-        Err(Stop::Fault(found)) => Err(Stop::Fault(Fault {
+        Err(FaultOrMemory::Memory) => Err(FaultOrMemory::Memory),
+        Err(FaultOrMemory::Fault(found)) => Err(FaultOrMemory::Fault(Fault {
             left: bytes.len().saturating_sub(found.at as usize),
             kind: code_fault(found.kind),
         })),
@@ -304,7 +304,7 @@ fn ops_in(
 /// Reads the instructions that are all of a text.
 #[derive(Clone, Copy)]
 struct Ops<'r, 'p> {
-    known: &'r Known<'p>,
+    known: &'r PoolInfo<'p>,
 }
 
 impl<'r, 'p> BodyReader for Ops<'r, 'p> {
@@ -324,7 +324,7 @@ impl<'r, 'p> BodyReader for Ops<'r, 'p> {
 /// The instructions behind the number of their bytes, that number, and what lies behind them.
 fn ops_of<'a>(
     alloc: Global,
-    known: &Known<'_>,
+    known: &PoolInfo<'_>,
     bytes: &'a [u8],
 ) -> Result<(Seq<Placed>, u32, &'a [u8]), ReadError<ClassFault>>
     ensures read { Gives (λ x. (x.0, x.2.now)) result ((block code_length kinds.Truncated (ops known.now)).read bytes.now) }
@@ -337,7 +337,7 @@ fn ops_of<'a>(
 
 fn handlers_of<'a>(
     alloc: Global,
-    known: &Known<'_>,
+    known: &PoolInfo<'_>,
     found: &[Placed],
     size: u32,
     bytes: &'a [u8],
@@ -356,7 +356,7 @@ fn handlers_of<'a>(
 
 fn attributes_of<'a>(
     alloc: Global,
-    known: &Known<'_>,
+    known: &PoolInfo<'_>,
     bytes: &'a [u8],
 ) -> Result<(Seq<CodeAttribute>, &'a [u8]), ReadError<ClassFault>>
     ensures { Gives (λ x. (x.0, x.1.now)) result ((counted_from u2 (attribute known.now) saw_maps false).read bytes.now) }
@@ -371,10 +371,10 @@ fn attributes_of<'a>(
     )
 }
 
-#[tactic(auto, unfolding(crate::specs::Codes::code_content))]
+#[tactic(auto, unfolding(crate::specs::CodeFormat::code_content))]
 fn code_of<'a>(
     alloc: Global,
-    known: &Known<'_>,
+    known: &PoolInfo<'_>,
     bytes: &'a [u8],
 ) -> Result<(CodeBody, &'a [u8]), ReadError<ClassFault>>
     ensures { Gives (λ x. (x.0, x.1.now)) result ((code_content known.now).read bytes.now) }
@@ -399,7 +399,7 @@ fn code_of<'a>(
 /// Reads the code that is all of a text.
 #[derive(Clone, Copy)]
 pub struct CodeReader<'r, 'p> {
-    pub known: &'r Known<'p>,
+    pub known: &'r PoolInfo<'p>,
 }
 
 impl<'r, 'p> BodyReader for CodeReader<'r, 'p> {

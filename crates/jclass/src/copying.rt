@@ -1,7 +1,7 @@
 ghost use Rattle.std.specs.Prelude.{◌≡◌, IfOk};
 
 use crate::class::{Attribute, ClassParts, CodeAttribute, MemberInfo};
-use jground::jbase::{Again, Seq, all_again};
+use jground::jbase::{Seq, TryClone, all_again};
 use jparts::jcode::Placed;
 use jparts::jmaps::RawFrame;
 use std::alloc::{AllocError, Global};
@@ -51,7 +51,7 @@ impl CodeAttribute {
     }
 }
 
-impl Again for CodeAttribute {
+impl TryClone for CodeAttribute {
     fn again(&self, alloc: Global) -> Result<CodeAttribute, AllocError> {
         self.copy(alloc)
     }
@@ -95,7 +95,7 @@ impl Attribute {
     }
 }
 
-impl Again for Attribute {
+impl TryClone for Attribute {
     fn again(&self, alloc: Global) -> Result<Attribute, AllocError> {
         self.copy(alloc)
     }
@@ -116,7 +116,7 @@ impl MemberInfo {
     }
 }
 
-impl Again for MemberInfo {
+impl TryClone for MemberInfo {
     fn again(&self, alloc: Global) -> Result<MemberInfo, AllocError> {
         self.copy(alloc)
     }

@@ -1,4 +1,4 @@
-use jground::jbase::Stop;
+use jground::jbase::FaultOrMemory;
 use jground::jformat::At;
 
 /// What is wrong with the bytes of a class file.
@@ -44,4 +44,4 @@ pub enum ClassFault {
 
 /// Why bytes gave no class file: the first fault and its place in the bytes, or want of memory, which may come at any time, and
 /// comes where an offset has more than 32 bits.
-pub type ClassError = Stop<At<ClassFault>>;
+pub type ClassError = FaultOrMemory<At<ClassFault>>;

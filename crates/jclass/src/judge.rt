@@ -1,11 +1,11 @@
 ghost use Rattle.std.specs.Prelude.{◌≡◌, ◌-◌, IfOk, IsTrue, option_map};
-ghost use Rattle.jground.specs.jbase.First.{or_else};
+ghost use Rattle.jground.specs.jbase.FirstFaults.{or_else};
 ghost use Rattle.jparts.specs.declared.jpool.entry.Entry.{Entry};
-ghost use Rattle.jparts.specs.jpool.Pools;
-ghost use Rattle.jparts.specs.jpool.Pools.{first_fault};
-ghost use Rattle.jclass.specs.Basics.{pool_fault};
-ghost use Rattle.jclass.specs.Judging;
-ghost use Rattle.jclass.specs.Judging.{text_fault};
+ghost use Rattle.jparts.specs.jpool.ConstantPools;
+ghost use Rattle.jparts.specs.jpool.ConstantPools.{first_fault};
+ghost use Rattle.jclass.specs.IndexFormats.{pool_fault};
+ghost use Rattle.jclass.specs.PoolChecks;
+ghost use Rattle.jclass.specs.PoolChecks.{text_fault};
 
 use crate::fault::ClassFault;
 use crate::shape::pool_fault;
@@ -43,9 +43,9 @@ struct Among<'r, 'a> {
     uses: &'r TextUses<'a>,
 }
 
-#[tactic(auto, unfolding(crate::specs::Judging::entry_fault))]
+#[tactic(auto, unfolding(crate::specs::PoolChecks::entry_fault))]
 fn fault_among(uses: &TextUses<'_>, one: &Entry) -> Option<ClassFault>
-    ensures { result ≡ Judging.entry_fault uses.now one.now }
+    ensures { result ≡ PoolChecks.entry_fault uses.now one.now }
 {
     if let Some(kind) = text_fault_of(one) {
         return Some(kind);
@@ -56,7 +56,7 @@ fn fault_among(uses: &TextUses<'_>, one: &Entry) -> Option<ClassFault>
 impl<'r, 'a> EntryTest for Among<'r, 'a> {
     type Kind = ClassFault;
 
-    ghost faults = { λ test. Judging.entry_fault test.uses.now };
+    ghost faults = { λ test. PoolChecks.entry_fault test.uses.now };
 
     fn fault_of(&self, one: &Entry) -> Option<ClassFault> {
         fault_among(self.uses, one)
@@ -69,7 +69,7 @@ pub fn judge_pool(
     entries: &[Entry],
     left: usize,
 ) -> Result<Option<Fault<ClassFault>>, AllocError>
-    ensures { IfOk result (λ found. found ≡ first_fault (Judging.entry_fault entries.now) left entries.now) }
+    ensures { IfOk result (λ found. found ≡ first_fault (PoolChecks.entry_fault entries.now) left entries.now) }
 {
     let uses = TextUses::of(alloc, entries)?;
     let among = Among { uses: &uses };

@@ -2,7 +2,7 @@ ghost use Rattle.std.specs.Prelude.{◌≡◌, ◌≤◌, List, ℕ, IsTrue, Ok,
 ghost use Rattle.jground.specs.jformat.Format.{IsBytes};
 ghost use Rattle.jparts.specs.declared.jpool.entry.Entry.TheVariants.{Utf8};
 ghost use Rattle.jparts.specs.declared.jmaps.types.RawFrame.{RawFrame};
-ghost use Rattle.jparts.specs.jmaps.Frames.{maps};
+ghost use Rattle.jparts.specs.jmaps.StackMapFormat.{maps};
 ghost use Rattle.jparts.specs.declared.jcode.op.Handler.{Handler};
 ghost use Rattle.jparts.specs.declared.jcode.op.Placed.{Placed};
 ghost use Rattle.jparts.specs.jcode.Instructions;
@@ -10,9 +10,9 @@ ghost use Rattle.jparts.specs.jcode.Instructions.{Rises, leads};
 ghost use Rattle.jclass.specs.declared.class.ClassParts.{ClassParts};
 ghost use Rattle.jclass.specs.declared.class.CodeAttribute.TheVariants.{Maps};
 ghost use Rattle.jclass.specs.declared.class.CodeBody.{CodeBody};
-ghost use Rattle.jclass.specs.Judging.{is_modified};
+ghost use Rattle.jclass.specs.PoolChecks.{is_modified};
 ghost use Rattle.jclass.specs.Class.{Spells, class_file};
-ghost use Rattle.jclass.specs.Stored.{HasCode, IsIn, Leads};
+ghost use Rattle.jclass.specs.FileContents.{HasCode, IsIn, Leads};
 
 /// A class file has one spelling, and bytes spell at most one class file.
 pub fn spelling_laws()

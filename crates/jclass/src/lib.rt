@@ -2,12 +2,12 @@
 //! the first that finds a fault ends the reading: its shape, its pool entry by entry, and then the rest by the pool. Here is what each
 //! pass reads; `read_class`, which goes through them, stands in jreadclass. `ClassFile` holds parts that some bytes spell.
 //!
-//! - `Basics`: numbers, flags, indices with a test, one of two formats by a test.
-//! - `Shapes`: the first pass (attributes as runs of bytes, gone over without keeping them).
-//! - `Judging`: the second (what entries hold and name).
-//! - `Rules` and `Operands`: what indices, flags, descriptors and instructions must be.
-//! - `Attributes`, `Codes`, `Members`, `Class`: the third pass, and the whole.
-//! - `Stored`: what a class file holds, as laws speak of it.
+//! - `IndexFormats`: numbers, flags, indices with a test, one of two formats by a test.
+//! - `ClassFileShape`: the first pass (attributes as runs of bytes, gone over without keeping them).
+//! - `PoolChecks`: the second (what entries hold and name).
+//! - `FlagRules` and `PoolOperands`: what indices, flags, descriptors and instructions must be.
+//! - `Attributes`, `CodeFormat`, `MemberFormat`, `Class`: the third pass, and the whole.
+//! - `FileContents`: what a class file holds, as laws speak of it.
 //! - `AttributeLaws`, `CodeLaws`: laws of these formats that readers of blocks need, which is why they stand in `specs/`.
 //!
 //! Proved: each reader of a part answers what its format reads; `write_class` gives the bytes that spell a class file; `spelling_laws`:
@@ -16,8 +16,6 @@
 //! frames are frames, and each text is modified UTF-8; copies are equal.
 //!
 //! `ProofNames` are names by which proofs and contracts of inner functions call what the definitions say in place.
-//!
-//! Rooms of linking, checking, the machine's definition, the machine, moving, jobs and the top may name it, and tests.
 #![tactic(auto)]
 
 mod access;
@@ -28,11 +26,11 @@ mod code;
 mod copying;
 mod fault;
 mod judge;
-mod known;
 mod laws;
 mod member;
 mod operand;
 mod places;
+mod pool_info;
 mod shape;
 mod text;
 mod write;
@@ -43,8 +41,8 @@ pub use class::{Attribute, ClassParts, CodeAttribute, MemberInfo};
 pub use class_file::ClassFile;
 pub use fault::{ClassError, ClassFault};
 pub use judge::judge_pool;
-pub use known::{Known, is_text};
 pub use laws::{spelling_laws, stored_laws};
 pub use member::{Fields, Methods};
+pub use pool_info::{PoolInfo, is_text};
 pub use shape::{Head, head_of, skip_tail};
 pub use write::write_class;

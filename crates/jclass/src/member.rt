@@ -1,12 +1,12 @@
 ghost use Rattle.std.specs.Prelude.{◌≡◌, false, length};
 ghost use Rattle.std.specs.List.{filter};
-ghost use Rattle.jground.specs.jbase.Stops.{Gives};
-ghost use Rattle.jground.specs.jformat.States.{counted_from};
-ghost use Rattle.jclass.specs.Basics.{u2};
-ghost use Rattle.jclass.specs.Rules;
-ghost use Rattle.jclass.specs.Rules.{field_descriptor, method_descriptor};
+ghost use Rattle.jground.specs.jbase.MemoryFailures.{Gives};
+ghost use Rattle.jground.specs.jformat.StatefulFormats.{counted_from};
+ghost use Rattle.jclass.specs.IndexFormats.{u2};
+ghost use Rattle.jclass.specs.FlagRules;
+ghost use Rattle.jclass.specs.FlagRules.{field_descriptor, method_descriptor};
 ghost use Rattle.jclass.specs.Attributes.{field_attribute, saw_constant};
-ghost use Rattle.jclass.specs.Members.{codes_fault, field, method, method_attribute, method_parts, name_at, names_at};
+ghost use Rattle.jclass.specs.MemberFormat.{codes_fault, field, method, method_attribute, method_parts, name_at, names_at};
 
 use crate::access::Access;
 use crate::attribute::{FieldAttributes, access_of, bytes_of, text_index_of};
@@ -14,7 +14,7 @@ use crate::class::{Attribute, MemberInfo};
 use crate::code::CodeReader;
 use crate::fault::ClassFault;
 use crate::fault::ClassFault::{Code, Truncated};
-use crate::known::{Known, has_no_code};
+use crate::pool_info::{PoolInfo, has_no_code};
 use crate::shape::skip_run;
 use jground::jbase::Seq;
 use jground::jformat::{ReadError, Reader, block_of, counted_of, fault, times_by_of, u16_of};
@@ -22,9 +22,9 @@ use std::alloc::Global;
 
 // ---- fields
 
-#[tactic(auto, unfolding(crate::specs::Rules::field_descriptor))]
+#[tactic(auto, unfolding(crate::specs::FlagRules::field_descriptor))]
 fn field_descriptor_of<'a>(
-    known: &Known<'_>,
+    known: &PoolInfo<'_>,
     bytes: &'a [u8],
 ) -> Result<(u16, &'a [u8]), ReadError<ClassFault>>
     ensures { Gives (λ x. (x.0, x.1.now)) result ((field_descriptor known.now).read bytes.now) }
@@ -38,7 +38,7 @@ fn field_descriptor_of<'a>(
 
 fn field_attributes_of<'a>(
     alloc: Global,
-    known: &Known<'_>,
+    known: &PoolInfo<'_>,
     flags: Access,
     desc: u16,
     bytes: &'a [u8],
@@ -50,10 +50,10 @@ fn field_attributes_of<'a>(
     times_by_of(alloc, &reader, false, usize::from(count), rest)
 }
 
-#[tactic(auto, unfolding(crate::specs::Members::field))]
+#[tactic(auto, unfolding(crate::specs::MemberFormat::field))]
 fn field_of<'a>(
     alloc: Global,
-    known: &Known<'_>,
+    known: &PoolInfo<'_>,
     bytes: &'a [u8],
 ) -> Result<(MemberInfo, &'a [u8]), ReadError<ClassFault>>
     ensures { Gives (λ x. (x.0, x.1.now)) result ((field known.now).read bytes.now) }
@@ -76,7 +76,7 @@ fn field_of<'a>(
 /// Reads fields.
 #[derive(Clone, Copy)]
 pub struct Fields<'r, 'p> {
-    pub known: &'r Known<'p>,
+    pub known: &'r PoolInfo<'p>,
 }
 
 impl<'r, 'p> Reader for Fields<'r, 'p> {
@@ -97,9 +97,9 @@ impl<'r, 'p> Reader for Fields<'r, 'p> {
 
 // ---- methods
 
-#[tactic(auto, unfolding(crate::specs::Rules::method_descriptor))]
+#[tactic(auto, unfolding(crate::specs::FlagRules::method_descriptor))]
 fn method_descriptor_of<'a>(
-    known: &Known<'_>,
+    known: &PoolInfo<'_>,
     flags: Access,
     bytes: &'a [u8],
 ) -> Result<(u16, &'a [u8]), ReadError<ClassFault>>
@@ -112,10 +112,10 @@ fn method_descriptor_of<'a>(
     }
 }
 
-#[tactic(auto, unfolding(crate::specs::Members::method_attribute))]
+#[tactic(auto, unfolding(crate::specs::MemberFormat::method_attribute))]
 fn method_attribute_of<'a>(
     alloc: Global,
-    known: &Known<'_>,
+    known: &PoolInfo<'_>,
     bytes: &'a [u8],
 ) -> Result<(Attribute, &'a [u8]), ReadError<ClassFault>>
     ensures { Gives (λ x. (x.0, x.1.now)) result ((method_attribute known.now).read bytes.now) }
@@ -141,7 +141,7 @@ fn method_attribute_of<'a>(
 
 #[derive(Clone, Copy)]
 struct MethodAttributes<'r, 'p> {
-    known: &'r Known<'p>,
+    known: &'r PoolInfo<'p>,
 }
 
 impl<'r, 'p> Reader for MethodAttributes<'r, 'p> {
@@ -160,10 +160,10 @@ impl<'r, 'p> Reader for MethodAttributes<'r, 'p> {
     }
 }
 
-#[tactic(auto, unfolding(crate::specs::Members::method_parts))]
+#[tactic(auto, unfolding(crate::specs::MemberFormat::method_parts))]
 fn method_parts_of<'a>(
     alloc: Global,
-    known: &Known<'_>,
+    known: &PoolInfo<'_>,
     bytes: &'a [u8],
 ) -> Result<(MemberInfo, &'a [u8]), ReadError<ClassFault>>
     ensures { Gives (λ x. (x.0, x.1.now)) result ((method_parts known.now).read bytes.now) }
@@ -218,13 +218,13 @@ fn names_of(
     Ok(((flags, names), rest))
 }
 
-fn codes_in(known: &Known<'_>, names: &[u16]) -> usize
-    ensures { result ≡ length (filter (Rules.is_code known.now) names.now) }
+fn codes_in(known: &PoolInfo<'_>, names: &[u16]) -> usize
+    ensures { result ≡ length (filter (FlagRules.is_code known.now) names.now) }
 {
     names.iter().filter(|name| known.is_code(**name)).count()
 }
 
-fn codes_fault_of(known: &Known<'_>, flags: Access, names: &[u16]) -> Option<ClassFault>
+fn codes_fault_of(known: &PoolInfo<'_>, flags: Access, names: &[u16]) -> Option<ClassFault>
     ensures { result ≡ codes_fault known.now (flags, names.now) }
 {
     let wanted = if has_no_code(flags) { 0 } else { 1 };
@@ -234,10 +234,10 @@ fn codes_fault_of(known: &Known<'_>, flags: Access, names: &[u16]) -> Option<Cla
     Some(Code)
 }
 
-#[tactic(auto, unfolding(crate::specs::Members::method))]
+#[tactic(auto, unfolding(crate::specs::MemberFormat::method))]
 fn method_of<'a>(
     alloc: Global,
-    known: &Known<'_>,
+    known: &PoolInfo<'_>,
     bytes: &'a [u8],
 ) -> Result<(MemberInfo, &'a [u8]), ReadError<ClassFault>>
     ensures { Gives (λ x. (x.0, x.1.now)) result ((method known.now).read bytes.now) }
@@ -252,7 +252,7 @@ fn method_of<'a>(
 /// Reads methods.
 #[derive(Clone, Copy)]
 pub struct Methods<'r, 'p> {
-    pub known: &'r Known<'p>,
+    pub known: &'r PoolInfo<'p>,
 }
 
 impl<'r, 'p> Reader for Methods<'r, 'p> {

@@ -1,10 +1,10 @@
 ghost use Rattle.std.specs.Prelude.{◌≡◌, false, option_map};
-ghost use Rattle.jground.specs.jbase.First.{first_some};
-ghost use Rattle.jclass.specs.Operands;
-ghost use Rattle.jclass.specs.Operands.{is_called, is_constant, is_field, is_interface_method, is_method, is_wide_constant, misnamed};
+ghost use Rattle.jground.specs.jbase.FirstFaults.{first_some};
+ghost use Rattle.jclass.specs.PoolOperands;
+ghost use Rattle.jclass.specs.PoolOperands.{is_called, is_constant, is_field, is_interface_method, is_method, is_wide_constant, misnamed};
 ghost use Rattle.std.specs.Option.{option_map_or};
 
-use crate::known::Known;
+use crate::pool_info::PoolInfo;
 use jparts::jcode::{CallOp, Ldc, NewOp, Op, Placed};
 use jparts::jpool::Entry;
 
@@ -59,9 +59,9 @@ fn is_called(op: CallOp, one: Option<&Entry>) -> bool
 }
 
 /// Whether an instruction names an entry of the kind that it must name (JVMS 6.5).
-#[tactic(auto, unfolding(crate::specs::Operands::names_well))]
-fn names_well(known: &Known<'_>, op: &Op) -> bool
-    ensures { result ≡ Operands.names_well known.now op.now }
+#[tactic(auto, unfolding(crate::specs::PoolOperands::names_well))]
+fn names_well(known: &PoolInfo<'_>, op: &Op) -> bool
+    ensures { result ≡ PoolOperands.names_well known.now op.now }
 {
     match op {
         Op::Ldc(Ldc::Narrow(n)) => is_constant(known.entry(u16::from(*n))),
@@ -78,8 +78,8 @@ fn names_well(known: &Known<'_>, op: &Op) -> bool
 }
 
 /// The place of the first instruction that names an entry of another kind than it must.
-#[tactic(auto, unfolding(jground::specs::jbase::First::first_some))]
-pub fn first_misnamed(known: &Known<'_>, ops: &[Placed]) -> Option<u32>
+#[tactic(auto, unfolding(jground::specs::jbase::FirstFaults::first_some))]
+pub fn first_misnamed(known: &PoolInfo<'_>, ops: &[Placed]) -> Option<u32>
     ensures { result ≡ first_some (misnamed known.now) ops.now }
 {
     for one in ops {

@@ -1,6 +1,6 @@
 ghost use Rattle.std.specs.Prelude.{◌≡◌, ◌||◌, ◌==◌, pos, length, IsTrue};
 ghost use Rattle.jparts.specs.jcode.Instructions.{code, is_place};
-ghost use Rattle.jclass.specs.Codes.{begins, ends};
+ghost use Rattle.jclass.specs.CodeFormat.{begins, ends};
 
 use jparts::jcode::Placed;
 use std::marker::Model;

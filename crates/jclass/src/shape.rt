@@ -1,17 +1,17 @@
 ghost use Rattle.std.specs.Prelude.{◌≡◌};
 ghost use Rattle.std.specs.Int.{w16};
-ghost use Rattle.jground.specs.jbase.Stops.{Gives};
+ghost use Rattle.jground.specs.jbase.MemoryFailures.{Gives};
 ghost use Rattle.jground.specs.jformat.Format.{number_at};
-ghost use Rattle.jground.specs.jformat.Bodies.{counted, counted_at};
-ghost use Rattle.jclass.specs.Basics.{pool_fault, run, u2, unseen};
-ghost use Rattle.jclass.specs.Shapes;
-ghost use Rattle.jclass.specs.Shapes.{major, tail};
+ghost use Rattle.jground.specs.jformat.BodyFormats.{counted, counted_at};
+ghost use Rattle.jclass.specs.IndexFormats.{pool_fault, run, u2, unseen};
+ghost use Rattle.jclass.specs.ClassFileShape;
+ghost use Rattle.jclass.specs.ClassFileShape.{major, tail};
 ghost use Rattle.jclass.specs.ProofNames.{magic};
 ghost use Rattle.jclass.specs.declared.fault.ClassFault.TheVariants as kinds;
 
 use crate::fault::ClassFault;
 use crate::fault::ClassFault::{Magic, Truncated, Version};
-use jground::jbase::{Seq, Stop};
+use jground::jbase::{FaultOrMemory, Seq};
 use jground::jformat::{Fault, ReadError, Reader, counted_of, fault, run_of, u16_of, u32_of};
 use jparts::jpool::{Entry, PoolFault, entries_of};
 use std::alloc::Global;
@@ -57,14 +57,14 @@ pub fn pool_fault(kind: PoolFault) -> ClassFault
     }
 }
 
-#[tactic(auto, unfolding(crate::specs::Shapes::entries))]
+#[tactic(auto, unfolding(crate::specs::ClassFileShape::entries))]
 fn pool_of(alloc: Global, bytes: &[u8]) -> Result<(Seq<Entry>, &[u8]), ReadError<ClassFault>>
-    ensures { Gives (λ x. (x.0, x.1.now)) result (Shapes.entries.read bytes.now) }
+    ensures { Gives (λ x. (x.0, x.1.now)) result (ClassFileShape.entries.read bytes.now) }
 {
     match entries_of(alloc, bytes) {
         Ok((entries, rest)) => Ok((entries, rest)),
-        Err(Stop::Memory) => Err(Stop::Memory),
-        Err(Stop::Fault(found)) => Err(Stop::Fault(Fault {
+        Err(FaultOrMemory::Memory) => Err(FaultOrMemory::Memory),
+        Err(FaultOrMemory::Fault(found)) => Err(FaultOrMemory::Fault(Fault {
             left: found.left,
             kind: pool_fault(found.kind),
         })),
@@ -72,9 +72,9 @@ fn pool_of(alloc: Global, bytes: &[u8]) -> Result<(Seq<Entry>, &[u8]), ReadError
 }
 
 /// The front of a class file up to the end of its pool, as far as its shape goes, and the bytes behind it.
-#[tactic(auto, unfolding(crate::specs::Shapes::head))]
+#[tactic(auto, unfolding(crate::specs::ClassFileShape::head))]
 pub fn head_of(alloc: Global, bytes: &[u8]) -> Result<(Head, &[u8]), ReadError<ClassFault>>
-    ensures { Gives (λ x. ((tt, (x.0.minor, (x.0.major, x.0.entries))), x.1.now)) result (Shapes.head.read bytes.now) }
+    ensures { Gives (λ x. ((tt, (x.0.minor, (x.0.major, x.0.entries))), x.1.now)) result (ClassFileShape.head.read bytes.now) }
 {
     let rest = magic_of(bytes)?;
     let (minor, rest) = u16_of(Truncated, rest)?;
@@ -129,7 +129,7 @@ impl Reader for Attributes {
 
     type Item = ();
 
-    ghost reads = { λ _ bytes. unseen (Shapes.attribute.read bytes) };
+    ghost reads = { λ _ bytes. unseen (ClassFileShape.attribute.read bytes) };
 
     fn read<'a>(
         &self,
@@ -155,7 +155,7 @@ fn skip_counted<'a, R: Reader<Kind = ClassFault, Item = ()>>(
 }
 
 fn skip_attributes(alloc: Global, bytes: &[u8]) -> Result<&[u8], ReadError<ClassFault>>
-    ensures { Gives (λ x. (tt, x.now)) result (unseen ((counted u2 Shapes.attribute).read bytes.now)) }
+    ensures { Gives (λ x. (tt, x.now)) result (unseen ((counted u2 ClassFileShape.attribute).read bytes.now)) }
 {
     skip_counted(alloc, &Attributes, bytes)
 }
@@ -167,7 +167,7 @@ fn skip_indices(alloc: Global, bytes: &[u8]) -> Result<&[u8], ReadError<ClassFau
 }
 
 fn skip_member(alloc: Global, bytes: &[u8]) -> Result<&[u8], ReadError<ClassFault>>
-    ensures { Gives (λ x. (tt, x.now)) result (unseen (Shapes.member.read bytes.now)) }
+    ensures { Gives (λ x. (tt, x.now)) result (unseen (ClassFileShape.member.read bytes.now)) }
 {
     let (_, rest) = u16_of(Truncated, bytes)?;
     let (_, rest) = u16_of(Truncated, rest)?;
@@ -183,7 +183,7 @@ impl Reader for Members {
 
     type Item = ();
 
-    ghost reads = { λ _ bytes. unseen (Shapes.member.read bytes) };
+    ghost reads = { λ _ bytes. unseen (ClassFileShape.member.read bytes) };
 
     fn read<'a>(
         &self,
@@ -196,13 +196,13 @@ impl Reader for Members {
 }
 
 fn skip_members(alloc: Global, bytes: &[u8]) -> Result<&[u8], ReadError<ClassFault>>
-    ensures { Gives (λ x. (tt, x.now)) result (unseen ((counted u2 Shapes.member).read bytes.now)) }
+    ensures { Gives (λ x. (tt, x.now)) result (unseen ((counted u2 ClassFileShape.member).read bytes.now)) }
 {
     skip_counted(alloc, &Members, bytes)
 }
 
 /// What lies behind the rest of a class file, as far as its shape goes. Nothing is kept of what is gone over.
-#[tactic(auto, unfolding(crate::specs::Shapes::tail))]
+#[tactic(auto, unfolding(crate::specs::ClassFileShape::tail))]
 pub fn skip_tail(alloc: Global, bytes: &[u8]) -> Result<&[u8], ReadError<ClassFault>>
     ensures { Gives (λ x. (tt, x.now)) result (unseen (tail.read bytes.now)) }
 {

@@ -1,8 +1,8 @@
 ghost use Rattle.std.specs.Prelude.{◌≡◌, ◌&&◌, ◌||◌, ◌==◌, IsTrue, option_map, nat_le, nat_lt};
 ghost use Rattle.jground.specs.jtext.Modified;
 ghost use Rattle.jground.specs.jtext.Modified.{three_at, two_at, unit_at};
-ghost use Rattle.jclass.specs.Judging;
-ghost use Rattle.jclass.specs.Judging.{behind};
+ghost use Rattle.jclass.specs.PoolChecks;
+ghost use Rattle.jclass.specs.PoolChecks.{behind};
 
 fn goes_on(b: u8) -> bool
     ensures { result ≡ Modified.goes_on b }
@@ -109,7 +109,7 @@ fn behind_unit(bytes: &[u8]) -> Option<&[u8]>
 
 /// Whether bytes are a text in modified UTF-8 (JVMS 4.4.7). It takes no memory.
 pub fn is_modified(bytes: &[u8]) -> bool
-    ensures { result ≡ Judging.is_modified bytes.now }
+    ensures { result ≡ PoolChecks.is_modified bytes.now }
 {
     let mut rest = bytes;
     for _ in 0..bytes.len() {

@@ -1,18 +1,18 @@
 ghost use Rattle.std.specs.Prelude.{◌≡◌, ◌++◌, IfOk, IsTrue, OnOk, false};
-ghost use Rattle.jground.specs.jformat.Bodies.{block, whole};
-ghost use Rattle.jground.specs.jformat.States.{counted_from};
-ghost use Rattle.jparts.specs.jmaps.Frames.{maps};
-ghost use Rattle.jclass.specs.Basics.{access, index, u2, u4};
+ghost use Rattle.jground.specs.jformat.BodyFormats.{block, whole};
+ghost use Rattle.jground.specs.jformat.StatefulFormats.{counted_from};
+ghost use Rattle.jparts.specs.jmaps.StackMapFormat.{maps};
+ghost use Rattle.jclass.specs.IndexFormats.{access, index, u2, u4};
 ghost use Rattle.jclass.specs.declared.fault.ClassFault.TheVariants.{Trailing, Truncated};
-ghost use Rattle.jclass.specs.Rules.{names_class};
+ghost use Rattle.jclass.specs.FlagRules.{names_class};
 ghost use Rattle.jclass.specs.Attributes;
 ghost use Rattle.jclass.specs.Attributes.{class_attribute, constant, field_attribute, saw_constant};
-ghost use Rattle.jclass.specs.Codes;
-ghost use Rattle.jclass.specs.Codes.{attribute, code_body, handler, ops, saw_maps};
-ghost use Rattle.jclass.specs.Members.{code_fits, code_spell, field, method, method_attribute};
+ghost use Rattle.jclass.specs.CodeFormat;
+ghost use Rattle.jclass.specs.CodeFormat.{attribute, code_body, handler, ops, saw_maps};
+ghost use Rattle.jclass.specs.MemberFormat.{code_fits, code_spell, field, method, method_attribute};
 ghost use Rattle.jclass.specs.Class;
 ghost use Rattle.jclass.specs.Class.{Spells, class_parts};
-ghost use Rattle.jclass.specs.Judging;
+ghost use Rattle.jclass.specs.PoolChecks;
 
 use crate::access::Access;
 use crate::class::{Attribute, ClassParts, CodeAttribute, MemberInfo};
@@ -148,8 +148,8 @@ fn put_maps(
     frames: &[RawFrame],
     out: &mut Seq<u8>,
 ) -> Result<(), AllocError>
-    requires { IsTrue ((Codes.maps pool.now).fits frames.now) }
-    ensures { OnOk result (out.new ≡ out.old ++ (Codes.maps pool.now).spell frames.now) }
+    requires { IsTrue ((CodeFormat.maps pool.now).fits frames.now) }
+    ensures { OnOk result (out.new ≡ out.old ++ (CodeFormat.maps pool.now).spell frames.now) }
 {
     // What the proof needs: the pool, of which the clause speaks.
     let _pool = pool;
@@ -159,9 +159,9 @@ fn put_maps(
 impl<'r> Writer for MapsWriter<'r> {
     type Item = Seq<RawFrame>;
 
-    ghost spells = { λ w. (Codes.maps w.pool.now).spell };
+    ghost spells = { λ w. (CodeFormat.maps w.pool.now).spell };
 
-    ghost fits = { λ w. (Codes.maps w.pool.now).fits };
+    ghost fits = { λ w. (CodeFormat.maps w.pool.now).fits };
 
     fn write(
         &self,
@@ -173,7 +173,7 @@ impl<'r> Writer for MapsWriter<'r> {
     }
 }
 
-#[tactic(auto, unfolding(crate::specs::Codes::attribute))]
+#[tactic(auto, unfolding(crate::specs::CodeFormat::attribute))]
 fn put_attribute(
     alloc: Global,
     pool: &Pool,
@@ -232,7 +232,7 @@ impl<'r> StateWriter for CodeAttributeWriter<'r> {
     }
 }
 
-#[tactic(auto, unfolding(crate::specs::Codes::handler))]
+#[tactic(auto, unfolding(crate::specs::CodeFormat::handler))]
 fn put_handler(
     pool: &Pool,
     ops: &[Placed],
@@ -267,7 +267,7 @@ impl<'r> Writer for HandlerWriter<'r> {
     }
 }
 
-#[tactic(auto, unfolding(crate::specs::Codes::ops))]
+#[tactic(auto, unfolding(crate::specs::CodeFormat::ops))]
 fn put_ops(
     alloc: Global,
     pool: &Pool,
@@ -320,7 +320,7 @@ struct CodeWriter<'r> {
     pool: &'r Pool,
 }
 
-#[tactic(auto, unfolding(crate::specs::Codes::code_content))]
+#[tactic(auto, unfolding(crate::specs::CodeFormat::code_content))]
 fn put_code(
     alloc: Global,
     pool: &Pool,
@@ -366,7 +366,7 @@ impl<'r> Writer for CodeWriter<'r> {
 
 // ---- members
 
-#[tactic(auto, unfolding(crate::specs::Members::method_attribute))]
+#[tactic(auto, unfolding(crate::specs::MemberFormat::method_attribute))]
 fn put_method_attribute(
     alloc: Global,
     pool: &Pool,
@@ -425,7 +425,7 @@ fn put_field_attributes(
     put_by(alloc, &writer, false, attributes, out)
 }
 
-#[tactic(auto, unfolding(crate::specs::Members::field, crate::specs::Rules::field_descriptor))]
+#[tactic(auto, unfolding(crate::specs::MemberFormat::field, crate::specs::FlagRules::field_descriptor))]
 fn put_field(
     alloc: Global,
     pool: &Pool,
@@ -458,7 +458,7 @@ impl<'r> Writer for FieldWriter<'r> {
     }
 }
 
-#[tactic(auto, unfolding(crate::specs::Members::method, crate::specs::Members::method_parts, crate::specs::Rules::method_descriptor))]
+#[tactic(auto, unfolding(crate::specs::MemberFormat::method, crate::specs::MemberFormat::method_parts, crate::specs::FlagRules::method_descriptor))]
 fn put_method(
     alloc: Global,
     pool: &Pool,
@@ -515,10 +515,10 @@ impl<'r> Writer for InterfaceWriter<'r> {
     }
 }
 
-#[tactic(auto, unfolding(crate::specs::Judging::head, crate::specs::Shapes::head, crate::specs::Shapes::entries))]
+#[tactic(auto, unfolding(crate::specs::PoolChecks::head, crate::specs::ClassFileShape::head, crate::specs::ClassFileShape::entries))]
 fn put_head(alloc: Global, one: &ClassParts, out: &mut Seq<u8>) -> Result<(), AllocError>
-    requires { IsTrue (Judging.head.fits (class_parts one.now).0) }
-    ensures { OnOk result (out.new ≡ out.old ++ Judging.head.spell (class_parts one.now).0) }
+    requires { IsTrue (PoolChecks.head.fits (class_parts one.now).0) }
+    ensures { OnOk result (out.new ≡ out.old ++ PoolChecks.head.spell (class_parts one.now).0) }
 {
     put_u32(0xcafe_babe, out)?;
     put_u16(one.minor, out)?;

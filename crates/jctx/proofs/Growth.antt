@@ -7,13 +7,13 @@ use Rattle.jperm.specs.declared.permission.Permission.{Permission}
 use Rattle.jperm.specs.Permissions.{equal}
 use Rattle.jctx.proofs.Bools.{EqualIsSame}
 use Rattle.jctx.specs.declared.item.Item.{Item}
-use Rattle.jctx.specs.Limits.{is_within}
+use Rattle.jctx.specs.PrivilegeLimits.{is_within}
 use Rattle.std.proofs.Common.{Option}
 use Rattle.jctx.specs.Contexts.{keep_after, keep, enter, privileged, limited}
 use Rattle.jctx.specs.ProofNames.{given_items}
-use Rattle.jctx.specs.Items.{covers, plain}
-use Rattle.jctx.proofs.Kept.{keep-keep}
-use Rattle.jctx.specs.Growing.{hidden, added, joined}
+use Rattle.jctx.specs.ContextItems.{covers, plain}
+use Rattle.jctx.proofs.MinimalContexts.{keep-keep}
+use Rattle.jctx.specs.ContextGrowth.{hidden, added, joined}
 use Rattle.jctx.proofs.Bools.{or_cases, or_left, or_right, and_left, and_right, and_both, or_absorbs, or_comm, or_zero}
 
 -- a member of limits is one of those that they are within

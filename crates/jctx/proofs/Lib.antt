@@ -1,6 +1,6 @@
-pub mod Along
+pub mod StackVerdicts
 pub mod Bools
 pub mod Growth
-pub mod Kept
-pub mod Limiting
+pub mod MinimalContexts
+pub mod LimitedPrivileges
 pub mod Verdicts

@@ -2,16 +2,16 @@
 use Rattle.std.proofs.Common.{◌≡◌, ℕ, Bool, true, false, not, ◌&&◌, ◌||◌, ◌==◌, List, [], ◌∷◌, ◌++◌, Option, Some, None, refl, sym, ap, ◌∙◌, cond, eqb-true, subst}
 use Rattle.std.specs.List.{list_any}
 use Rattle.std.proofs.lemmas.List.Folds.{list_any-append}
-use Rattle.jrights.specs.declared.jdomain.verdict.Verdict.{Verdict}
-use Rattle.jrights.specs.declared.jdomain.verdict.Verdict.TheVariants.{Granted, Denied}
-use Rattle.jrights.specs.jdomain.Stacks.{first_denial, past_limits, some_implies}
+use Rattle.jdomain.specs.declared.verdict.Verdict.{Verdict}
+use Rattle.jdomain.specs.declared.verdict.Verdict.TheVariants.{Granted, Denied}
+use Rattle.jdomain.specs.DomainStacks.{first_denial, past_limits, some_implies}
 use Rattle.jperm.specs.Permissions.{implies, equal}
 use Rattle.jperm.specs.declared.permission.Permission.{Permission}
 use Rattle.jctx.proofs.Bools.{EqualIsSame}
 use Rattle.jctx.specs.declared.item.Item.{Item}
-use Rattle.jctx.specs.Limits.{is_within, add_limits}
+use Rattle.jctx.specs.PrivilegeLimits.{is_within, add_limits}
 use Rattle.jctx.specs.Contexts.{verdict, keep_after, limited}
-use Rattle.jctx.specs.Items.{fails, covers}
+use Rattle.jctx.specs.ContextItems.{fails, covers}
 use Rattle.jctx.proofs.Bools.{or_cases, or_left, or_right, and_left, and_right, or_absorbs, or_zero, or_assoc, or_neither, lacks_less}
 
 -- limits that imply the permission let each item pass, and others change nothing

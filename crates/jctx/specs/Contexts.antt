@@ -3,11 +3,11 @@
 use Rattle.std.specs.Prelude.{ℕ, Bool, List, [], ◌∷◌, ◌++◌, Option, Some, None, map, if◌then◌else◌, unwrap_or}
 use Rattle.std.specs.List.{list_any}
 use Rattle.jperm.specs.declared.permission.Permission.{Permission}
-use Rattle.jrights.specs.declared.jdomain.verdict.Verdict.{Verdict}
-use Rattle.jrights.specs.declared.jdomain.verdict.Verdict.TheVariants.{Granted, Denied}
-use Rattle.jrights.specs.jdomain.Stacks.{Stack, Bottom, Entry, Mark, Unmarked, Privileged, Given, Nothing, Within}
+use Rattle.jdomain.specs.declared.verdict.Verdict.{Verdict}
+use Rattle.jdomain.specs.declared.verdict.Verdict.TheVariants.{Granted, Denied}
+use Rattle.jdomain.specs.DomainStacks.{Stack, Bottom, Entry, Mark, Unmarked, Privileged, Given, Nothing, Within}
 use Rattle.jctx.specs.declared.item.Item.{Item}
-use Rattle.jctx.specs.Items.{fails, covers, plain, with_limits}
+use Rattle.jctx.specs.ContextItems.{fails, covers, plain, with_limits}
 
 -- denied by the domain of the first item that fails, else granted
 abbrev pub verdict : (ℕ → Permission → Bool) → Permission → List Item → Verdict

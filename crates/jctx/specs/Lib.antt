@@ -1,6 +1,6 @@
 pub mod Contexts
-pub mod Growing
-pub mod Items
-pub mod Laws
-pub mod Limits
+pub mod ContextGrowth
+pub mod ContextItems
+pub mod ContextLaws
+pub mod PrivilegeLimits
 pub mod ProofNames

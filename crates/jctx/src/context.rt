@@ -1,13 +1,13 @@
 ghost use Rattle.std.specs.Prelude.{◌≡◌, [], ◌∷◌, ◌++◌, IfOk, OnOk};
-ghost use Rattle.jrights.specs.jdomain.Domains.{has};
-ghost use Rattle.jrights.specs.jdomain.Stacks.{Stack, walk};
+ghost use Rattle.jdomain.specs.Domains.{has};
+ghost use Rattle.jdomain.specs.DomainStacks.{Stack, walk};
 ghost use Rattle.jctx.specs.Contexts.{along, verdict};
-ghost use Rattle.jctx.specs.Growing.{hidden};
-ghost use Rattle.jctx.specs.Items.{plain};
+ghost use Rattle.jctx.specs.ContextGrowth.{hidden};
+ghost use Rattle.jctx.specs.ContextItems.{plain};
 
 use crate::item::Item;
+use jdomain::{Domains, Verdict};
 use jperm::{Permission, permission_laws};
-use jrights::jdomain::{Domains, Verdict};
 use std::alloc::{AllocError, Global};
 use std::marker::Model;
 
@@ -93,7 +93,7 @@ impl Context {
 
     /// What the context decides for a permission: denied by the domain of the first item whose domain lacks it and whose limits
     /// don't imply it, else granted. It takes no memory.
-    #[tactic(auto, using(crate::proofs::Along::verdict_follows))]
+    #[tactic(auto, using(crate::proofs::StackVerdicts::verdict_follows))]
     pub fn verdict(&self, domains: &Domains, asked: &Permission) -> Verdict
         ensures value { result ≡ verdict (has domains.now) asked.now self.now }
         // The context of a stack decides as the walk of the stack does.

@@ -1,10 +1,10 @@
 ghost use Rattle.std.specs.Prelude.{◌≡◌, IfOk};
-ghost use Rattle.jrights.specs.jdomain.Domains.{has};
-ghost use Rattle.jctx.specs.Items.{fails, covers, plain, with_limits};
+ghost use Rattle.jdomain.specs.Domains.{has};
+ghost use Rattle.jctx.specs.ContextItems.{fails, covers, plain, with_limits};
 
 use crate::limits::Limits;
+use jdomain::Domains;
 use jperm::Permission;
-use jrights::jdomain::Domains;
 use std::alloc::{AllocError, Global};
 
 /// A domain that is asked, where none of the limits implies the permission.

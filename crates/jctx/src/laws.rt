@@ -1,4 +1,4 @@
-ghost use Rattle.jctx.specs.Laws.{AlongIsKept, DecidesAsTheWalk, DomainsDiffer, EnterSame, EnteredIsKept, IsSmall, PrivilegedIsKept, PrivilegedSame};
+ghost use Rattle.jctx.specs.ContextLaws.{AlongIsKept, DecidesAsTheWalk, DomainsDiffer, EnterSame, EnteredIsKept, IsSmall, PrivilegedIsKept, PrivilegedSame};
 
 use jperm::permission_laws;
 

@@ -1,11 +1,11 @@
 //! Security contexts as values, in place of the stack below a method (Wallach, Appel and Felten): `top`, `enter`, `privileged`,
 //! `Context::verdict`. By them jrules says what the machine that passes contexts does.
 //!
-//! - `Items`: a domain that is asked, and the limits under which it is.
-//! - `Limits`: sets of permissions.
+//! - `ContextItems`: a domain that is asked, and the limits under which it is.
+//! - `PrivilegeLimits`: sets of permissions.
 //! - `Contexts`: what a context decides, how one is made at a call and at a privilege, and the context of a stack.
-//! - `Growing`: contexts that grow item by item.
-//! - `Laws`: the laws.
+//! - `ContextGrowth`: contexts that grow item by item.
+//! - `ContextLaws`: the laws.
 //!
 //! Proved: each call is its definition; `verdict` takes no memory, and the context of a stack decides as the walk of the stack does,
 //! the denying domain included (also on `context_laws`, for every stack and permission); no item of a context that is made is covered
@@ -14,8 +14,6 @@
 //! in which it was called.
 //!
 //! `ProofNames` are names by which proofs and contracts of inner functions call what the definitions say in place.
-//!
-//! Rooms of the machine's definition and the machine may name it, and tests.
 #![tactic(auto)]
 
 mod context;

@@ -1,8 +1,8 @@
 ghost use Rattle.std.specs.Prelude.{◌≡◌, [], IfOk, OnOk};
 ghost use Rattle.std.specs.List.{list_any};
 ghost use Rattle.jperm.specs.Permissions.{equal};
-ghost use Rattle.jrights.specs.jdomain.Stacks.{some_implies};
-ghost use Rattle.jctx.specs.Limits.{add_limits, is_within};
+ghost use Rattle.jdomain.specs.DomainStacks.{some_implies};
+ghost use Rattle.jctx.specs.PrivilegeLimits.{add_limits, is_within};
 
 use jperm::Permission;
 use std::alloc::{AllocError, Global};
@@ -41,7 +41,7 @@ impl Limits {
     }
 
     /// Whether one of the limits by itself implies a permission.
-    #[tactic(auto, unfolding(jrights::specs::jdomain::Stacks::some_implies))]
+    #[tactic(auto, unfolding(jdomain::specs::DomainStacks::some_implies))]
     pub fn imply(&self, asked: &Permission) -> bool
         ensures { result ≡ some_implies self.now asked.now }
     {

@@ -2,9 +2,9 @@ ghost use Rattle.std.specs.Prelude.{◌≡◌, [], IfOk, OnOk, map};
 ghost use Rattle.std.specs.Option.{option_copied};
 ghost use Rattle.jctx.specs.Contexts.{enter, limited, privileged};
 ghost use Rattle.jctx.specs.ProofNames.{given_items};
-ghost use Rattle.jctx.specs.Growing.{joined};
-ghost use Rattle.jctx.specs.Items.{with_limits};
-ghost use Rattle.jctx.specs.Laws.{IsKept};
+ghost use Rattle.jctx.specs.ContextGrowth.{joined};
+ghost use Rattle.jctx.specs.ContextItems.{with_limits};
+ghost use Rattle.jctx.specs.ContextLaws.{IsKept};
 
 use crate::context::Context;
 use jperm::{Permission, permission_laws};

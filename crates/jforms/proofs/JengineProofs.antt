@@ -1,5 +1,4 @@
-pub mod Arriving
-pub mod Asking
-pub mod Coursing
-pub mod Opened
-pub mod Starting
+pub mod StepPremises
+pub mod QuickRuns
+pub mod InitialMachines
+pub mod RunPositions

@@ -1,3 +1,3 @@
-pub mod Answering
-pub mod Sided
-pub mod Standing
+pub mod InspectingAnswers
+pub mod InspectingSide
+pub mod MarkMeanings

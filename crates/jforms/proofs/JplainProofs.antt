@@ -1,3 +1,3 @@
-pub mod Answering
-pub mod Growing
-pub mod Sided
+pub mod PlainAnswers
+pub mod ContextTableGrowth
+pub mod PassingSide

@@ -1,5 +1,5 @@
-pub mod JengineProofs
-pub mod JwholeProofs
+pub mod JtablesProofs
 pub mod JinspectProofs
-pub mod JplainProofs
 pub mod JpassProofs
+pub mod JplainProofs
+pub mod JengineProofs

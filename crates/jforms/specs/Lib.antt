@@ -1,5 +1,5 @@
-pub mod jengine
-pub mod jwhole
+pub mod jtables
 pub mod jinspect
-pub mod jplain
 pub mod jpass
+pub mod jplain
+pub mod jengine

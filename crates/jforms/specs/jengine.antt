@@ -1,3 +1,4 @@
-pub mod Courses
-pub mod Engines
-pub mod Grounds
+pub mod AccessCalls
+pub mod ExecutedSteps
+pub mod EnginePositions
+pub mod RunTallies

@@ -1,1 +1,1 @@
-pub mod Inspects
+pub mod InspectingGuards

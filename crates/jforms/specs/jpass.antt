@@ -1,3 +1,1 @@
-pub mod Passing
-pub mod Running
-pub mod Standing
+pub mod PassRuns

@@ -1,1 +1,1 @@
-pub mod Plains
+pub mod PlainGuards

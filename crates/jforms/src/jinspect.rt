@@ -1,14 +1,12 @@
-//! The inspecting machine: its guard, over kept stacks (`jkept`) and a job's domains, and its run.
+//! The inspecting machine: its guard, over kept stacks (`jsnapshots`) and a job's domains, and its run.
 //!
-//! - `Inspects`: which stack a number stands for, what a frame's mark stands for, and what an ask makes of the guard.
+//! - `InspectingGuards`: which stack a number stands for, what a frame's mark stands for, and what an ask makes of the guard.
 //!
 //! Proved: `Inspector` answers each ask as the inspecting rules of jrules do, by what its numbers stand for, and numbers that it gave
 //! keep that; a check and the entering of a method leave it as it is. `run_inspect` writes exactly the text of the definition's run of
 //! a checked program by these rules, answers its end, and at a fault leaves a front of the text.
 //!
 //! `count_inspect` answers how many lines of each kind that text has, and its end, and holds no text.
-//!
-//! Rooms of jobs and the top may name it.
 
 mod counting;
 mod inspector;

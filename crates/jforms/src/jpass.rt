@@ -1,26 +1,11 @@
-//! What a moved program tells, by the machine that is handed contexts, of what the program tells as it was written, by the machine that walks
-//! frames: the same events in the same order, and the same end.
+//! The run of a moved program, with what it tells of the program as it was written: nobody is handed that one.
 //!
-//! - `Standing`: which states of the one stand for which of the other.
-//! - `Passing`: what whole runs tell of one another, with the numbers of steps; and which runs are never stuck.
-//! - `Running`: what a call tells that runs a moved program, of the program as it was written.
+//! - `PassRuns`: what a call tells that runs a moved program, of the inspecting run of the program as it was written.
 //!
-//! Proved, on `stand_law`: each step of the inspecting machine that isn't stuck is answered by 1 to 7 of the plain one, which tell nothing before
-//! the last. On `pass_law`: what the plain run has told after m steps the inspecting one has told after some k of no more than m, and
-//! has ended so, or neither has ended and m is at most 8 k + 15; and where the inspecting run has ended after n steps, any 8 n + 8 steps of the
-//! plain one tell the same and end alike. The two programs are any of which a machine knows that the second is the first one moved (`jstands`);
-//! on `moved_laws` they are each program that links, is well typed and breaks no limit, and its moved program. Where a machine knows no more,
-//! this holds as far as the inspecting run isn't stuck; a program that links and is well typed has no run that is (`jsound`).
-//!
-//! **`run_pass`** is the run of a moved program (`jplain`), and these laws are its clauses: nobody is handed the program as it was written. Neither
-//! run is ever stuck.
-//!
-//! The driver may name it.
+//! Proved, on `run_pass`, which is the run of a plain program (jplain): by the pass theorem (`jpass_laws`), the same events and the same end, within
+//! stated numbers of steps. Neither run is ever stuck.
 
-mod laws;
-mod machines;
 mod running;
 
 pub use crate::jplain::{count_plain, run_plain};
-pub use laws::{moved_laws, pass_law, stand_law};
 pub use running::run_pass;

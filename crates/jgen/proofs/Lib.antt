@@ -1,6 +1,6 @@
-pub mod Drawing
-pub mod Filing
-pub mod Parting
-pub mod Putting
+pub mod DrawnKinds
+pub mod FileLists
+pub mod MethodParts
+pub mod PoolAdditions
 pub mod Rooms
-pub mod Writing
+pub mod TextConcatenation

@@ -3,10 +3,10 @@ use Rattle.std.proofs.Common.{◌≡◌, ℕ, ◌+◌, ◌≤◌, ◌<◌, Bool,
 use Rattle.std.specs.Prelude.{IsTrue, OnOk, nat_le}
 use Rattle.std.proofs.lemmas.Bool.{leb-true, le-leb}
 use Rattle.std.proofs.lemmas.List.{drop_all, drop_more}
-use Rattle.jground.proofs.JformatProofs.Steps.{both, first_true, second_true}
-use Rattle.jgen.specs.declared.piece.Piece.{Piece}
+use Rattle.jground.proofs.JformatProofs.ReadingSteps.{both, first_true, second_true}
+use Rattle.jgen.specs.declared.class_file_item.ClassFileItem.{ClassFileItem}
 use Rattle.jgen.specs.declared.laying.Draft.{Draft}
-use Rattle.jgen.specs.Items.{Item, greatest, has_room, have_room, is_named_shortly, item_of, most, most_of, with_item, with_items}
+use Rattle.jgen.specs.ClassFileItems.{Item, greatest, has_room, have_room, is_named_shortly, item_of, most, most_of, with_item, with_items}
 
 -- ---- room
 
@@ -25,37 +25,37 @@ have_fewer m n (item ∷ items) less h =
 
 -- ---- the pieces of a loop
 
-drop_item : (ps : List Piece) (i : ℕ) (p : Piece) → i < length ps → map item_of (drop i ps) ≡ item_of (get_or ps i p) ∷ map item_of (drop (i + 1) ps)
-drop_item ps i p h = ap (λ (l : List Piece). map item_of l) (drop_more ps i p h)
+drop_item : (ps : List ClassFileItem) (i : ℕ) (p : ClassFileItem) → i < length ps → map item_of (drop i ps) ≡ item_of (get_or ps i p) ∷ map item_of (drop (i + 1) ps)
+drop_item ps i p h = ap (λ (l : List ClassFileItem). map item_of l) (drop_more ps i p h)
 
-room_at : (ps : List Piece) (i n : ℕ) (p : Piece) → i < length ps → IsTrue (have_room n (map item_of (drop i ps)))
+room_at : (ps : List ClassFileItem) (i n : ℕ) (p : ClassFileItem) → i < length ps → IsTrue (have_room n (map item_of (drop i ps)))
     → IsTrue (has_room n (item_of (get_or ps i p)) && have_room (n + most (item_of (get_or ps i p))) (map item_of (drop (i + 1) ps)))
 unfolding have_room
 room_at ps i n p h room = subst (λ (l : List Item). IsTrue (have_room n l)) (drop_item ps i p h) room
 
-pub room_here : (ps : List Piece) (i n : ℕ) (p : Piece) → i < length ps → IsTrue (have_room n (map item_of (drop i ps))) → IsTrue (has_room n (item_of (get_or ps i p)))
+pub room_here : (ps : List ClassFileItem) (i n : ℕ) (p : ClassFileItem) → i < length ps → IsTrue (have_room n (map item_of (drop i ps))) → IsTrue (has_room n (item_of (get_or ps i p)))
 room_here ps i n p h room = first_true (has_room n (item_of (get_or ps i p))) (have_room (n + most (item_of (get_or ps i p))) (map item_of (drop (i + 1) ps))) (room_at ps i n p h room)
 
-pub room_next : (ps : List Piece) (i n m : ℕ) (p : Piece) → i < length ps → m ≤ n + most (item_of (get_or ps i p)) → IsTrue (have_room n (map item_of (drop i ps)))
+pub room_next : (ps : List ClassFileItem) (i n m : ℕ) (p : ClassFileItem) → i < length ps → m ≤ n + most (item_of (get_or ps i p)) → IsTrue (have_room n (map item_of (drop i ps)))
     → IsTrue (have_room m (map item_of (drop (i + 1) ps)))
 room_next ps i n m p h less room =
     have_fewer (n + most (item_of (get_or ps i p))) m (map item_of (drop (i + 1) ps)) less
     (second_true (has_room n (item_of (get_or ps i p))) (have_room (n + most (item_of (get_or ps i p))) (map item_of (drop (i + 1) ps))) (room_at ps i n p h room))
 
-pub few_next : (ps : List Piece) (i n m all : ℕ) (p : Piece) → i < length ps → m ≤ n + most (item_of (get_or ps i p)) → n + most_of (map item_of (drop i ps)) ≤ all
+pub few_next : (ps : List ClassFileItem) (i n m all : ℕ) (p : ClassFileItem) → i < length ps → m ≤ n + most (item_of (get_or ps i p)) → n + most_of (map item_of (drop i ps)) ≤ all
     → m + most_of (map item_of (drop (i + 1) ps)) ≤ all
 unfolding most_of
 few_next ps i n m all p h less few = omega (arith, less, few, ap most_of (drop_item ps i p h))
 
-pub items_next : (ps : List Piece) (i : ℕ) (p : Piece) (d next all : Draft) → i < length ps → next ≡ with_item (item_of (get_or ps i p)) d → with_items (map item_of (drop i ps)) d ≡ all
+pub items_next : (ps : List ClassFileItem) (i : ℕ) (p : ClassFileItem) (d next all : Draft) → i < length ps → next ≡ with_item (item_of (get_or ps i p)) d → with_items (map item_of (drop i ps)) d ≡ all
     → with_items (map item_of (drop (i + 1) ps)) next ≡ all
 unfolding with_items
 items_next ps i p d next all h put so_far =
     ap (λ (x : Draft). with_items (map item_of (drop (i + 1) ps)) x) put ∙ sym (ap (λ (l : List Item). with_items l d) (drop_item ps i p h)) ∙ so_far
 
-pub items_end : (ps : List Piece) (i : ℕ) (d all : Draft) → length ps ≤ i → with_items (map item_of (drop i ps)) d ≡ all → d ≡ all
+pub items_end : (ps : List ClassFileItem) (i : ℕ) (d all : Draft) → length ps ≤ i → with_items (map item_of (drop i ps)) d ≡ all → d ≡ all
 unfolding with_items
-items_end ps i d all h so_far = sym (ap (λ (l : List Piece). with_items (map item_of l) d) (drop_all i ps h)) ∙ so_far
+items_end ps i d all h so_far = sym (ap (λ (l : List ClassFileItem). with_items (map item_of l) d) (drop_all i ps h)) ∙ so_far
 
 -- ---- items that are known
 

@@ -1,6 +1,6 @@
-pub mod Classes
+pub mod GeneratedClasses
 pub mod Draws
-pub mod Files
-pub mod Items
-pub mod Parts
+pub mod GeneratedFiles
+pub mod ClassFileItems
+pub mod MethodParts
 pub mod ProofNames

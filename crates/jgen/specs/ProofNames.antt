@@ -2,13 +2,13 @@
 -- reaches none of them.
 use Rattle.std.specs.Prelude.{List, codes, ◌∷◌, [], ◌==◌, if◌then◌else◌, ℕ, ◌/◌}
 use Rattle.jparts.specs.declared.jpool.entry.Entry.TheVariants.{Unused}
-use Rattle.jgen.specs.Items.{Item}
-use Rattle.jgen.specs.Classes.{method, main_method}
+use Rattle.jgen.specs.ClassFileItems.{Item}
+use Rattle.jgen.specs.GeneratedClasses.{method, main_method}
 use Rattle.jgen.specs.declared.laying.Draft.{Draft}
 use Rattle.jgen.specs.declared.draws.Kind.{Kind}
-use Rattle.jgen.specs.Files.{grant}
+use Rattle.jgen.specs.GeneratedFiles.{grant}
 
--- ---- of Classes
+-- ---- of GeneratedClasses
 
 abbrev pub f_named : List Item → List Item
 f_named attribute = method 9 (codes "f") (codes "(I)V") attribute
@@ -27,7 +27,7 @@ main_of size i = if i == 0 then main_method size else []
 abbrev pub drawn : ℕ → ℕ
 drawn x = x / 65536
 
--- ---- of Files
+-- ---- of GeneratedFiles
 
 -- the line of a code source whose class is granted the permission
 abbrev pub granted : Kind → ℕ → List ℕ

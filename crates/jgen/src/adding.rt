@@ -1,9 +1,9 @@
 ghost use Rattle.std.specs.Prelude.{◌≡◌, ◌≤◌, ◌+◌, IfOk, IsTrue, Some, length, slice_get};
 ghost use Rattle.jparts.specs.declared.jpool.entry.Entry.TheVariants as entries;
-ghost use Rattle.jparts.specs.jpool.Adding.{has_spelling, laid, names_text};
-ghost use Rattle.jparts.specs.jpool.Pools.{is_utf8};
-ghost use Rattle.jmove.specs.Additions.{with_class, with_entry, with_member, with_text};
-ghost use Rattle.jgen.specs.Items.{Puts, with_field, with_method, with_string};
+ghost use Rattle.jparts.specs.jpool.EntryLayouts.{has_spelling, laid, names_text};
+ghost use Rattle.jparts.specs.jpool.ConstantPools.{is_utf8};
+ghost use Rattle.jmove.specs.PoolAdditions.{with_class, with_entry, with_member, with_text};
+ghost use Rattle.jgen.specs.ClassFileItems.{Puts, with_field, with_method, with_string};
 
 use jadder::{AddError, Adder};
 use jground::jbase::Seq;

@@ -1,16 +1,16 @@
 ghost use Rattle.std.specs.Prelude.{◌≡◌, ◌≤◌, ◌+◌, ◌*◌, ◌∷◌, [], IfOk, OnOk, length, if◌then◌else◌, ◌==◌};
-ghost use Rattle.jgen.specs.Classes;
+ghost use Rattle.jgen.specs.GeneratedClasses;
 ghost use Rattle.jgen.specs.ProofNames;
-ghost use Rattle.jgen.specs.Classes.{calls, class_items, main_method};
+ghost use Rattle.jgen.specs.GeneratedClasses.{calls, class_items, main_method};
 ghost use Rattle.jgen.specs.ProofNames.{main_of};
-ghost use Rattle.jgen.specs.Items;
-ghost use Rattle.jgen.specs.Items.{with_items};
-ghost use Rattle.jgen.specs.Parts.{main_end, main_part};
+ghost use Rattle.jgen.specs.ClassFileItems;
+ghost use Rattle.jgen.specs.ClassFileItems.{with_items};
+ghost use Rattle.jgen.specs.MethodParts.{main_end, main_part};
 
+use crate::class_file_item::ClassFileItem::{Method, Text, U1, U2, U4};
 use crate::draws::Kind;
 use crate::laying::{Draft, put_pieces};
 use crate::methods::{put_f, put_head, put_init, put_run};
-use crate::piece::Piece::{Method, Text, U1, U2, U4};
 use crate::texts::name_of;
 use jadder::Adder;
 use jground::jbase::Seq;
@@ -48,7 +48,7 @@ fn put_main_begin(
 fn put_call(alloc: Global, name: &[u8], draft: &mut Draft) -> Result<(), AllocError>
     requires short { length name.now ≤ 0xff }
     requires room { length draft.old.pool ≤ 0xfff0 }
-    ensures value { OnOk result (draft.new ≡ with_items (Classes.call name.now) draft.old) }
+    ensures value { OnOk result (draft.new ≡ with_items (GeneratedClasses.call name.now) draft.old) }
     ensures few { OnOk result (length draft.new.pool ≤ length draft.old.pool + 6) }
 {
     let pieces = [
@@ -127,7 +127,7 @@ fn methods(i: u32) -> u16
 
 /// Puts the number of a class's attributes.
 fn put_none(draft: &mut Draft) -> Result<(), AllocError>
-    ensures { OnOk result (draft.new ≡ with_items (Items.U2 0 ∷ []) draft.old) }
+    ensures { OnOk result (draft.new ≡ with_items (ClassFileItems.U2 0 ∷ []) draft.old) }
 {
     jground::jformat::put_u16(0, &mut draft.body)
 }
@@ -156,9 +156,9 @@ fn put_class(
 }
 
 /// The bytes of a class file.
-#[tactic(auto, unfolding(jparts::specs::jpool::Pools::pool))]
+#[tactic(auto, unfolding(jparts::specs::jpool::ConstantPools::pool))]
 fn spelled(alloc: Global, draft: &Draft) -> Result<Seq<u8>, AllocError>
-    ensures { IfOk result (λ bytes. bytes ≡ Classes.spelled draft.now) }
+    ensures { IfOk result (λ bytes. bytes ≡ GeneratedClasses.spelled draft.now) }
 {
     let pool = write_pool(alloc, draft.pool.pool())?;
     let mut bytes = Seq::from_slice(alloc, &[0xca, 0xfe, 0xba, 0xbe, 0, 0, 0, 52])?;
@@ -168,10 +168,10 @@ fn spelled(alloc: Global, draft: &Draft) -> Result<Seq<u8>, AllocError>
 }
 
 /// The bytes of the file of a class.
-#[tactic(auto, unfolding(crate::specs::Classes::class_bytes))]
+#[tactic(auto, unfolding(crate::specs::GeneratedClasses::class_bytes))]
 pub fn class_bytes(alloc: Global, size: u32, i: u32, kind: Kind) -> Result<Seq<u8>, AllocError>
     requires { size ≤ 1000 }
-    ensures { IfOk result (λ bytes. bytes ≡ Classes.class_bytes size i kind) }
+    ensures { IfOk result (λ bytes. bytes ≡ GeneratedClasses.class_bytes size i kind) }
 {
     let mut draft = blank(alloc)?;
     put_class(alloc, size, i, kind, &mut draft)?;

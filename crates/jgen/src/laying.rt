@@ -1,9 +1,9 @@
 ghost use Rattle.std.specs.Prelude.{◌≡◌, ◌≤◌, ◌+◌, IsTrue, OnOk, length, map};
-ghost use Rattle.jgen.specs.Items as items;
-ghost use Rattle.jgen.specs.Items.{has_room, have_room, item_of, most, most_of, with_item, with_items};
+ghost use Rattle.jgen.specs.ClassFileItems as items;
+ghost use Rattle.jgen.specs.ClassFileItems.{has_room, have_room, item_of, most, most_of, with_item, with_items};
 
 use crate::adding::{put_class, put_field, put_method, put_string, put_text};
-use crate::piece::Piece;
+use crate::class_file_item::ClassFileItem;
 use jadder::Adder;
 use jground::jbase::Seq;
 use jground::jformat::{put_u8, put_u16, put_u32};
@@ -82,26 +82,32 @@ fn put_string_index(alloc: Global, text: &[u8], draft: &mut Draft) -> Result<(),
 }
 
 /// Puts an item behind the others.
-#[tactic(auto, unfolding(crate::specs::Items::with_item))]
-fn put_piece(alloc: Global, piece: Piece<'_>, draft: &mut Draft) -> Result<(), AllocError>
+#[tactic(auto, unfolding(crate::specs::ClassFileItems::with_item))]
+fn put_piece(alloc: Global, piece: ClassFileItem<'_>, draft: &mut Draft) -> Result<(), AllocError>
     requires { IsTrue (has_room (length draft.old.pool) (item_of piece)) }
     ensures value { OnOk result (draft.new ≡ with_item (item_of piece.entry) draft.old) }
     ensures few { OnOk result (length draft.new.pool ≤ length draft.old.pool + most (item_of piece.entry)) }
 {
     match piece {
-        Piece::U1(n) => put_u8(n, &mut draft.body),
-        Piece::U2(n) => put_u16(n, &mut draft.body),
-        Piece::U4(n) => put_u32(n, &mut draft.body),
-        Piece::Text(text) => put_text_index(alloc, text, draft),
-        Piece::Class(name) => put_class_index(alloc, name, draft),
-        Piece::Field(class, name, text) => put_field_index(alloc, class, name, text, draft),
-        Piece::Method(class, name, text) => put_method_index(alloc, class, name, text, draft),
-        Piece::Str(text) => put_string_index(alloc, text, draft),
+        ClassFileItem::U1(n) => put_u8(n, &mut draft.body),
+        ClassFileItem::U2(n) => put_u16(n, &mut draft.body),
+        ClassFileItem::U4(n) => put_u32(n, &mut draft.body),
+        ClassFileItem::Text(text) => put_text_index(alloc, text, draft),
+        ClassFileItem::Class(name) => put_class_index(alloc, name, draft),
+        ClassFileItem::Field(class, name, text) => put_field_index(alloc, class, name, text, draft),
+        ClassFileItem::Method(class, name, text) => put_method_index(
+            alloc, class, name, text, draft,
+        ),
+        ClassFileItem::Str(text) => put_string_index(alloc, text, draft),
     }
 }
 
 /// Puts items behind the others.
-pub fn put_pieces(alloc: Global, pieces: &[Piece<'_>], draft: &mut Draft) -> Result<(), AllocError>
+pub fn put_pieces(
+    alloc: Global,
+    pieces: &[ClassFileItem<'_>],
+    draft: &mut Draft,
+) -> Result<(), AllocError>
     requires { IsTrue (have_room (length draft.old.pool) (map item_of pieces.now)) }
     ensures value { OnOk result (draft.new ≡ with_items (map item_of pieces.now) draft.old) }
     ensures few { OnOk result (length draft.new.pool ≤ length draft.old.pool + most_of (map item_of pieces.now)) }

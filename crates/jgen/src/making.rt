@@ -1,6 +1,6 @@
 ghost use Rattle.std.specs.Prelude.{◌≡◌, ◌≤◌, ◌++◌, IfOk, OnOk, length};
-ghost use Rattle.jgen.specs.Files;
-ghost use Rattle.jgen.specs.Files.{class_file, class_files};
+ghost use Rattle.jgen.specs.GeneratedFiles;
+ghost use Rattle.jgen.specs.GeneratedFiles.{class_file, class_files};
 
 use crate::class::class_bytes;
 use crate::draws::{Kind, kinds_of};
@@ -22,7 +22,7 @@ pub struct MadeJob {
 /// The file of a class.
 fn class_file(alloc: Global, size: u32, i: u32, kind: Kind) -> Result<MadeFile, AllocError>
     requires { size ≤ 1000 }
-    ensures { IfOk result (λ file. file ≡ Files.class_file size i kind) }
+    ensures { IfOk result (λ file. file ≡ GeneratedFiles.class_file size i kind) }
 {
     let path = path_of(alloc, i)?;
     let bytes = class_bytes(alloc, size, i, kind)?;
@@ -54,18 +54,18 @@ fn put_file(
     bytes: Seq<u8>,
     files: &mut Seq<MadeFile>,
 ) -> Result<(), AllocError>
-    ensures { OnOk result (files.new ≡ files.old ++ Files.text_file path.now bytes) }
+    ensures { OnOk result (files.new ≡ files.old ++ GeneratedFiles.text_file path.now bytes) }
 {
     let path = Seq::from_slice(alloc, path)?;
     files.push(MadeFile { path, bytes })
 }
 
 /// The job that a seed makes, of so many classes: its job file, its policy, and its class files in their order.
-#[tactic(auto, unfolding(crate::specs::Files::made_job))]
+#[tactic(auto, unfolding(crate::specs::GeneratedFiles::made_job))]
 pub fn make_job(alloc: Global, seed: u64, size: u32) -> Result<MadeJob, AllocError>
     requires least { 1 ≤ size }
     requires most { size ≤ 1000 }
-    ensures { IfOk result (λ job. job ≡ Files.made_job seed size) }
+    ensures { IfOk result (λ job. job ≡ GeneratedFiles.made_job seed size) }
 {
     let kinds = kinds_of(alloc, seed, size)?;
     let mut files = Seq::new(alloc);

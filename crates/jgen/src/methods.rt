@@ -1,11 +1,11 @@
 ghost use Rattle.std.specs.Prelude.{◌≡◌, ◌≤◌, ◌+◌, OnOk, length};
-ghost use Rattle.jgen.specs.Classes.{call_code, f_method, f_plain, f_privileged, head, init_method, privileged_code, run_method};
+ghost use Rattle.jgen.specs.GeneratedClasses.{call_code, f_method, f_plain, f_privileged, head, init_method, privileged_code, run_method};
 ghost use Rattle.jgen.specs.ProofNames.{f_named};
-ghost use Rattle.jgen.specs.Items.{with_items};
-ghost use Rattle.jgen.specs.Parts.{check_part, handler_part};
+ghost use Rattle.jgen.specs.ClassFileItems.{with_items};
+ghost use Rattle.jgen.specs.MethodParts.{check_part, handler_part};
 
+use crate::class_file_item::ClassFileItem::{Class, Field, Method, Str, Text, U1, U2, U4};
 use crate::laying::{Draft, put_pieces};
-use crate::piece::Piece::{Class, Field, Method, Str, Text, U1, U2, U4};
 use std::alloc::{AllocError, Global};
 
 const OBJECT: &[u8] = b"java/lang/Object";

@@ -1,8 +1,8 @@
 ghost use Rattle.std.specs.Prelude.{◌≡◌, ◌≤◌, ◌++◌, IfOk, OnOk, decimal, length};
-ghost use Rattle.jgen.specs.Classes.{name};
-ghost use Rattle.jgen.specs.Files;
+ghost use Rattle.jgen.specs.GeneratedClasses.{name};
+ghost use Rattle.jgen.specs.GeneratedFiles;
 ghost use Rattle.jgen.specs.ProofNames;
-ghost use Rattle.jgen.specs.Files.{base, grant, grants, path, source, sources};
+ghost use Rattle.jgen.specs.GeneratedFiles.{base, grant, grants, path, source, sources};
 
 use crate::draws::Kind;
 use jground::jbase::Seq;
@@ -82,7 +82,7 @@ fn put_sources(size: u32, out: &mut Seq<u8>) -> Result<(), AllocError>
 
 /// The text of the job of so many classes.
 pub fn job_text(alloc: Global, size: u32) -> Result<Seq<u8>, AllocError>
-    ensures { IfOk result (λ text. text ≡ Files.job_text size) }
+    ensures { IfOk result (λ text. text ≡ GeneratedFiles.job_text size) }
 {
     let mut out = Seq::new(alloc);
     out.extend(b"policy gen.policy\n")?;

@@ -1,10 +1,10 @@
 pub mod Blocks
-pub mod Casing
-pub mod Examples
-pub mod Laws
-pub mod Placing
+pub mod UnionCases
+pub mod FormatExamples
+pub mod FormatLaws
+pub mod FaultOffsets
 pub mod Skims
-pub mod Stateful
-pub mod Steps
-pub mod Turns
+pub mod StatefulFormats
+pub mod ReadingSteps
+pub mod ReadingLoops
 pub mod Unions

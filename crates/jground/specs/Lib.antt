@@ -1,7 +1,4 @@
 pub mod jbase
-pub mod jnames
-pub mod jops
 pub mod jformat
 pub mod jtext
-pub mod jregion
 pub mod ProofNames

@@ -1,16 +1,12 @@
 -- Names by which proofs and the contracts of inner functions call what the definitions say in place. What `javasec` and `dispatch` promise
 -- reaches none of them.
-use Rattle.std.specs.Prelude.{List, ℕ, Result, length, Bool, Ok, Err, false, ◌∷◌, [], ℤ, int_div, int_rem}
-use Rattle.jground.specs.jbase.Stops.{◌>>=◌}
+use Rattle.std.specs.Prelude.{List, ℕ, Result, length, Bool, Ok, Err, false, ◌∷◌, []}
+use Rattle.jground.specs.jbase.MemoryFailures.{◌>>=◌}
 use Rattle.jground.specs.jformat.Format.{Answer, Format, fault}
 use Rattle.jground.specs.declared.jformat.error.Fault.{Fault}
-use Rattle.jground.specs.jformat.Bodies.{inner_at}
-use Rattle.jground.specs.declared.jops.value.Value.{Value}
-use Rattle.jground.specs.declared.jops.value.DivideByZero.{DivideByZero}
-use Rattle.jground.specs.jops.Operations.{unless_zero, int, long}
-use Rattle.jground.specs.declared.jops.value.Value.TheVariants.{Int, Long}
+use Rattle.jground.specs.jformat.BodyFormats.{inner_at}
 
--- ---- of jformat.Bodies
+-- ---- of jformat.BodyFormats
 
 abbrev pub block_at : {K A : Type 0} → (List ℕ → Answer K ℕ) → K → (List ℕ → Result A (Fault K)) → List ℕ → Answer K A
 block_at count cut read bytes = count bytes >>= λ n. inner_at cut read n.0 n.1
@@ -21,28 +17,13 @@ block_at count cut read bytes = count bytes >>= λ n. inner_at cut read n.0 n.1
 abbrev pub fault_at : {K : Type 0} → K → List ℕ → Fault K
 fault_at kind bytes = record { left = length bytes; kind = kind }
 
--- ---- of jformat.Tags
+-- ---- of jformat.TagTables
 
 abbrev pub row_fits : {K R A : Type 0} → (R → Format K A) → A → Result R K → Bool
 row_fits f a x = elim x [ Ok r ↦ (f r).fits a | Err k ↦ false ]
 
 abbrev pub row_spell : {K R A : Type 0} → (R → Format K A) → ℕ → A → Result R K → List ℕ
 row_spell f t a x = elim x [ Ok r ↦ t ∷ (f r).spell a | Err k ↦ [] ]
-
--- ---- of jops.Operations
-
--- `int_div` rounds toward zero, and `int_rem` is what it leaves, with the sign of x
-abbrev pub int_quotient : {K : Type 0} → ℤ → ℤ → Result (Value K) DivideByZero
-int_quotient x y = unless_zero y (int (int_div x y))
-
-abbrev pub int_remainder : {K : Type 0} → ℤ → ℤ → Result (Value K) DivideByZero
-int_remainder x y = unless_zero y (Int (int_rem x y))
-
-abbrev pub long_quotient : {K : Type 0} → ℤ → ℤ → Result (Value K) DivideByZero
-long_quotient x y = unless_zero y (long (int_div x y))
-
-abbrev pub long_remainder : {K : Type 0} → ℤ → ℤ → Result (Value K) DivideByZero
-long_remainder x y = unless_zero y (Long (int_rem x y))
 
 -- ---- of jformat.Format
 

@@ -1,4 +1,4 @@
-pub mod Causes
-pub mod Each
-pub mod First
-pub mod Stops
+pub mod FaultCauses
+pub mod ListMaps
+pub mod FirstFaults
+pub mod MemoryFailures

@@ -1,7 +1,7 @@
-pub mod Bodies
-pub mod Cases
+pub mod BodyFormats
+pub mod UnionFormats
 pub mod Format
-pub mod Passes
-pub mod Places
-pub mod States
-pub mod Tags
+pub mod RepeatedReads
+pub mod FaultOffsets
+pub mod StatefulFormats
+pub mod TagTables

@@ -2,20 +2,18 @@
 //! fault is a kind and the number of bytes that are left at its place, and one call (`stop_at`) makes that an offset (`At`).
 //!
 //! - `Format`: bytes, numbers, two's complement, texts, one behind the other, tests.
-//! - `Bodies`: all bytes of a text, texts inside others, values one behind the other.
-//! - `States`: values by a state that the earlier ones made.
-//! - `Cases`: values of several forms, each with its first byte and its constructor.
-//! - `Tags`: first bytes that are apart, and tables of what each says.
-//! - `Passes`: a stricter reading over the same bytes, looking ahead.
-//! - `Places`: a fault's place as an offset (`GivesAt`).
+//! - `BodyFormats`: all bytes of a text, texts inside others, values one behind the other.
+//! - `StatefulFormats`: values by a state that the earlier ones made.
+//! - `UnionFormats`: values of several forms, each with its first byte and its constructor.
+//! - `TagTables`: first bytes that are apart, and tables of what each says.
+//! - `RepeatedReads`: a stricter reading over the same bytes, looking ahead.
+//! - `FaultOffsets`: a fault's place as an offset (`GivesAt`).
 //!
 //! Proved: each reader gives its format's reading, each writer its spelling. The laws of every combinator are lemmas that crates above
 //! cite, once a combinator: what is read is spelled so, what is spelled so is read again, a fault stands within the bytes, the rest is
 //! no longer than the bytes. Loops and blocks are Rust generics over traits with ghost members (`Reader`, `BodyReader`, `StateReader`,
 //! `Writer`, `StateWriter`), so that no crate above proves a loop again. `proofs/Examples` computes a union, a block with its length in
 //! front, signed numbers, a counted list, and values to the end.
-//!
-//! Any room may name it.
 
 mod error;
 mod loops;

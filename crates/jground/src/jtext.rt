@@ -6,8 +6,6 @@
 //! Proved: `units_of` reads exactly the texts that modified UTF-8 spells and names the first bad group; `bytes_of` writes that
 //! spelling; no two texts share one (`spelling_law`); `from_text` gives the units of a text; `same_ignoring_case` compares without
 //! letter case.
-//!
-//! Rooms of class files, permissions and policies, the machine's definition, the machine, moving, jobs and the top may name it, and tests.
 
 mod compare;
 mod modified;

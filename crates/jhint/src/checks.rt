@@ -4,12 +4,12 @@ use crate::said::Said;
 use crate::scene::scene_of;
 use crate::stacks::say_found;
 use jcheck::TypeFault;
-use jground::jnames::{Kind, Kinds};
 use jlinking::jlink::LinkedProgram;
 use jparts::jcode::{Op, Placed, effect_of, form_of, opcode_of};
 use jparts::jpool::Pool;
-use jprogram::MethodId;
-use jwalk::frame_before;
+use jresolution::jprogram::MethodId;
+use jvalues::jnames::{Kind, Kinds};
+use jverify::frame_before;
 
 fn word_of(kind: Kind) -> &'static str {
     match kind {

@@ -5,7 +5,7 @@ use bitflags::Flags;
 use jclass::{Access, ClassParts, MemberInfo};
 use jparts::jcode::Op;
 use jparts::jpool::{Entry, Pool};
-use jprogram::{class_text, has_code, member_desc, member_name};
+use jresolution::jprogram::{class_text, has_code, member_desc, member_name};
 
 /// What is left out of the machine.
 #[derive(Clone, Copy)]

@@ -7,8 +7,6 @@
 //! Proved: it ends, and leaves the shelf's files and its faults of writing as they were. What it says is in no clause. A line goes out
 //! whole or not at all, but for a fault of the sink; where memory runs out nothing is said. Names and paths are written as texts are in
 //! lines, and cut where they are long.
-//!
-//! jmain alone may name it.
 #![tactic(auto)]
 
 mod checks;

@@ -1,7 +1,7 @@
 use crate::said::Said;
 use crate::scene::{Scene, scene_of};
 use jmoving::{RewriteError, RewriteKind};
-use jprogram::NamedProgram;
+use jresolution::jprogram::NamedProgram;
 
 /// The most bytes of a moved method's code.
 const MOST_CODE: u32 = 32_767;

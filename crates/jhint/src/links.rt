@@ -1,4 +1,4 @@
-ghost use Rattle.jprogram.specs.Layers.{IsLayered};
+ghost use Rattle.jresolution.specs.jprogram.InterfaceSearch.{IsLayered};
 
 use crate::leftouts::left_out;
 use crate::references::{Named, bad_class, bad_member, say_named};
@@ -8,7 +8,9 @@ use jclass::{ClassParts, MemberInfo};
 use jlib::{Side, class as library_class, member};
 use jlinking::jlink::LinkError;
 use jparts::jpool::Pool;
-use jprogram::{LinkKind, NamedProgram, class_text, program_laws, super_name, text_at, this_name};
+use jresolution::jprogram::{
+    LinkKind, NamedProgram, class_text, program_laws, super_name, text_at, this_name,
+};
 
 // ---- what isn't there
 

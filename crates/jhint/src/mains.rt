@@ -3,7 +3,7 @@ use bitflags::Flags;
 use jclass::{Access, ClassParts, MemberInfo};
 use jground::jtext::{Units, bytes_of};
 use jlib::Side;
-use jprogram::{
+use jresolution::jprogram::{
     ClassRef, CodePart, NamedProgram, Reach, has_code, member_desc, member_name, reach_of,
 };
 use std::alloc::Global;

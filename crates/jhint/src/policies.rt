@@ -1,6 +1,6 @@
 use crate::said::Said;
 use jpolicy::PolicyFault;
-use jstages::policy_fault;
+use jtasks::jstages::policy_fault;
 
 /// The longest front of a policy of which is tried what could stand behind it.
 const MOST_TRIED: usize = 1_000_000;

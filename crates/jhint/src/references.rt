@@ -1,11 +1,11 @@
-ghost use Rattle.jprogram.specs.Layers.{IsLayered};
+ghost use Rattle.jresolution.specs.jprogram.InterfaceSearch.{IsLayered};
 
 use crate::said::Said;
 use crate::scene::Scene;
 use jclass::{ClassParts, MemberInfo};
 use jparts::jcode::{FieldOp, Ldc, NewOp, Op};
 use jparts::jpool::{Entry, Pool};
-use jprogram::{LinkKind, NamedProgram, class_text, member_desc, text_at, this_name};
+use jresolution::jprogram::{LinkKind, NamedProgram, class_text, member_desc, text_at, this_name};
 use std::alloc::Global;
 
 /// What an entry of the pool names, by indices of the pool: a class, or a member of one by its name and descriptor, which else are 0.

@@ -1,8 +1,8 @@
 ghost use Rattle.std.specs.Prelude.{Some};
 
-use jground::jbase::Stop;
+use jground::jbase::FaultOrMemory;
 use jground::jtext::{Units, units_of};
-use jrights::jio::{Sink, SinkError, put_all, write_line_text};
+use joutput::jio::{Sink, SinkError, put_all, write_line_text};
 use std::alloc::Global;
 
 /// The most units of a text that are told.
@@ -89,8 +89,8 @@ impl Said {
         self.open = false;
         match units_of(self.alloc, bytes) {
             Ok(units) => self.units(units.as_slice()),
-            Err(Stop::Fault(_)) => {}
-            Err(Stop::Memory) => self.is_lost = true,
+            Err(FaultOrMemory::Fault(_)) => {}
+            Err(FaultOrMemory::Memory) => self.is_lost = true,
         }
     }
 

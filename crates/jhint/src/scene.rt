@@ -1,7 +1,7 @@
 use crate::said::Said;
 use jclass::{ClassParts, MemberInfo};
-use jmeaning::juses::{CodeRef, code_at};
-use jprogram::{MethodId, NamedProgram, member_desc, member_name, this_name};
+use jresolution::jprogram::{MethodId, NamedProgram, member_desc, member_name, this_name};
+use jresolution::juses::{CodeRef, code_at};
 
 /// Where a program breaks a rule: a class of it, and a member, where it is one that breaks it.
 #[derive(Clone, Copy)]

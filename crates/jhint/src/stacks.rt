@@ -1,8 +1,8 @@
 use crate::said::Said;
-use jmeaning::jrule::FrameRef;
-use jmeaning::juses::{ElementRef, TypeRef};
-use jparts::jcode::{Access, Form, LocalForm, Op, form_of};
-use jprogram::NamedProgram;
+use jparts::jcode::{Access, LocalForm, Op, OpForm, form_of};
+use jresolution::jprogram::NamedProgram;
+use jresolution::juses::{ElementRef, TypeRef};
+use jtyping::jrule::FrameRef;
 
 /// The most operands that are told, the newest ones.
 const MOST_OPERANDS: usize = 8;
@@ -69,7 +69,7 @@ fn say_operands(program: &NamedProgram, kinds: &[TypeRef], said: &mut Said) {
 /// Says what an instruction finds in the frame before it: the local that it reads, and else the operands, the newest one last.
 pub fn say_found(program: &NamedProgram, op: &Op, frame: &FrameRef, said: &mut Said) {
     let n = match form_of(op) {
-        Form::Local(LocalForm::Move(Access::Load, _, n) | LocalForm::Increment(n, _)) => n,
+        OpForm::Local(LocalForm::Move(Access::Load, _, n) | LocalForm::Increment(n, _)) => n,
         _ => return say_operands(program, frame.stack.as_slice(), said),
     };
     said.number(b"; local ", n as u64, b" is ");

@@ -8,9 +8,9 @@ use crate::links::say_link;
 use crate::mains::say_main;
 use crate::policies::say_policy;
 use crate::said::Said;
-use jrights::jio::{Shelf, Sink};
-use jstages::{Seen, done_with};
-use jtask::refused;
+use joutput::jio::{Shelf, Sink};
+use jtasks::jstages::{Seen, done_with};
+use jtasks::jtask::refused;
 use std::alloc::Global;
 
 /// Says why a command is refused, by what was seen of its files.

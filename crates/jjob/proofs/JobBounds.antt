@@ -7,8 +7,8 @@ use Rattle.std.specs.Str.Lossy.{utf8_valid_len}
 use Rattle.std.proofs.lemmas.List.{length-append}
 use Rattle.std.proofs.lemmas.List.Elements.{filter_map-append}
 use Rattle.std.proofs.lemmas.List.Sums.{sum_by-cons}
-use Rattle.jground.specs.jbase.First.{fault_if, first_along, first_some, or_else}
-use Rattle.jjob.specs.Limits.{IsWithin, classes_in, most_classes, most_codes}
+use Rattle.jground.specs.jbase.FirstFaults.{fault_if, first_along, first_some, or_else}
+use Rattle.jjob.specs.JobLimits.{IsWithin, classes_in, most_classes, most_codes}
 use Rattle.jjob.specs.declared.job.Job.{Job}
 use Rattle.jjob.specs.declared.job.JobError.{JobError}
 use Rattle.jjob.specs.declared.job.JobSource.{JobSource}
@@ -17,7 +17,7 @@ use Rattle.jjob.specs.declared.line.Said.TheVariants.{Policy, Prop, Cwd, Code, C
 use Rattle.jjob.specs.JobLines.{is_kept, said_of}
 use Rattle.jjob.specs.Jobs.{JobGives, bad_behind, clashes, class_in, classes_here, code_in, count_of, first_bad, job, job_in, job_of, line_at}
 use Rattle.jjob.specs.Jobs.{lines_of, main_in, said_by, sources_of, unless_bad, with_main}
-use Rattle.jjob.proofs.JobReading.{along_step, longer, said_here, said_more, test, test_here}
+use Rattle.jjob.proofs.JobParser.{along_step, longer, said_here, said_more, test, test_here}
 
 -- ---- no more of a kind than there may be
 

@@ -8,11 +8,11 @@ use Rattle.std.specs.Ordering.{nat_cmp}
 use Rattle.std.proofs.lemmas.Bool.{eq-eqb, eqb-true, leb-true, leb-false}
 use Rattle.std.proofs.lemmas.List.Sorted.{IsNonDecreasingBy-from_sort, sum_by-IsPermutation}
 use Rattle.std.proofs.lemmas.List.Sums.{sum_by-cons}
-use Rattle.jground.specs.jbase.First.{fault_if, first_along, or_else}
+use Rattle.jground.specs.jbase.FirstFaults.{fault_if, first_along, or_else}
 use Rattle.jground.proofs.JbaseProofs.Firsts.{all_pass}
 use Rattle.jjob.specs.JobNames.{NoneTwice, differ_from, digest, digests_of, first_again, lesser, name_of, names_again, neighbours_differ}
 use Rattle.jjob.proofs.JobNames.{before_named}
-use Rattle.jjob.proofs.JobReading.{along_both, same_tests, test}
+use Rattle.jjob.proofs.JobParser.{along_both, same_tests, test}
 
 -- ---- going along numbers
 

@@ -17,11 +17,11 @@ use Rattle.std.proofs.lemmas.List.{append-nil, map-append}
 use Rattle.std.proofs.lemmas.List.Sorted.{Contains-permutation, IsPermutation-map, IsPermutation-sym, ranks_by, sorted_far}
 use Rattle.std.proofs.lemmas.Map.Text.{is_eq-slice_cmp}
 use Rattle.std.proofs.lemmas.Slice.Eq.{bytes_eq-Decides}
-use Rattle.jground.specs.jbase.First.{fault_if, first_along}
+use Rattle.jground.specs.jbase.FirstFaults.{fault_if, first_along}
 use Rattle.jground.proofs.JbaseProofs.Firsts.{first_found, none_fails}
 use Rattle.jjob.specs.declared.line.Said.TheVariants.{Prop}
 use Rattle.jjob.specs.JobLines.{SaysNoProp, is_kept, said_of}
-use Rattle.jjob.proofs.JobReading.{says_no_name}
+use Rattle.jjob.proofs.JobParser.{says_no_name}
 use Rattle.jjob.specs.JobNames.{again_from, digest, first_again, is_again, least_again, least_with, name_of, names_again, note_of, notes, plain, with_next}
 
 abbrev Note : Type 0

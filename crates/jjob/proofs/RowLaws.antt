@@ -4,7 +4,7 @@ use Rattle.std.proofs.lemmas.Slice.Eq.{bytes_eq-Decides}
 use Rattle.clap.specs.Walk.{Row, Text, all_of, first_of, has_row, with_values, without}
 use Rattle.clap.specs.declared.builder.value_parser.Reading.{Reading}
 use Rattle.clap.specs.declared.parser.matches.ValueSource.{ValueSource}
-use Rattle.jjob.proofs.Looks.{same}
+use Rattle.jjob.proofs.WordForms.{same}
 
 abbrev is_of : Text → Row → Bool
 is_of id r = bytes_eq r.id id

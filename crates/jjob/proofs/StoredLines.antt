@@ -2,7 +2,7 @@
 use Rattle.std.proofs.Common.{◌≡◌, ◌==◌, ℕ, false, List, [], ◌∷◌, ◌++◌, length, refl, sym, ap, ◌∙◌, append_assoc}
 use Rattle.std.proofs.lemmas.List.{append-nil}
 use Rattle.jjob.specs.Jobs.{lines_of}
-use Rattle.jjob.specs.Storing.{line_with, lines_with, paths_behind}
+use Rattle.jjob.specs.StoredJobText.{line_with, lines_with, paths_behind}
 use Rattle.jjob.proofs.LineNumbers.{some_lines}
 
 next_line : (paths : List (List ℕ)) (line : List ℕ) (more : List (List ℕ)) → ¬ (length more ≡ 0) → lines_with paths (line ∷ more) ≡ line_with paths line ++ 10 ∷ lines_with (paths_behind paths line) more

@@ -3,11 +3,11 @@ use Rattle.std.specs.Prelude.{◌≡◌, ℕ, Bool, ◌&&◌, not, ◌==◌, Lis
 use Rattle.std.specs.List.{after_first, before_first, position_or_len, slice_split}
 use Rattle.std.specs.Result.{result_ok}
 use Rattle.std.specs.Str.{byte, bytes_eq}
-use Rattle.jground.specs.jbase.Each.{each_some}
-use Rattle.jrights.specs.jdomain.Sources.{source_of}
+use Rattle.jground.specs.jbase.ListMaps.{each_some}
+use Rattle.jdomain.specs.CodeSources.{source_of}
 use Rattle.jjob.specs.declared.line.Said.{Said}
 use Rattle.jjob.specs.declared.line.Said.TheVariants.{Policy, Prop, Cwd, Code, Class, Main, Schedule, Heap, Depth, Steps}
-use Rattle.jjob.specs.Limits.{most_heap, most_depth, most_steps, greatest_pick}
+use Rattle.jjob.specs.JobLimits.{most_heap, most_depth, most_steps, greatest_pick}
 use Rattle.jjob.specs.JobNumbers.{number_up_to}
 
 -- whether a line says something: it isn't empty and doesn't begin with `#`

@@ -6,7 +6,7 @@ use Rattle.std.specs.Option.{option_to_list}
 use Rattle.std.specs.Str.{bytes_eq}
 use Rattle.std.specs.declared.alloc.AllocError.{AllocError}
 use denote.Ref.{Bor}
-use Rattle.jground.specs.jbase.First.{fault_if, first_along, or_else}
+use Rattle.jground.specs.jbase.FirstFaults.{fault_if, first_along, or_else}
 use Rattle.jjob.specs.declared.line.Said.{Said}
 use Rattle.jjob.specs.JobLines.{is_kept, said_of}
 use Rattle.jjob.specs.ProofNames.{name_in}

@@ -6,13 +6,13 @@ use Rattle.std.specs.Option.{is_some}
 use Rattle.std.specs.Str.{bytes_eq, is_utf8}
 use Rattle.std.specs.Str.Lossy.{utf8_valid_len}
 use Rattle.url.specs.Parts.{Parts}
-use Rattle.jground.specs.jbase.First.{fault_if, first_along, first_some}
+use Rattle.jground.specs.jbase.FirstFaults.{fault_if, first_along, first_some}
 use Rattle.jground.specs.jtext.Texts.{units_of_text}
 use Rattle.jjob.specs.declared.job.Job.{Job}
 use Rattle.jjob.specs.declared.job.JobError.{JobError}
 use Rattle.jjob.specs.declared.job.JobError.TheVariants.{Line, Memory}
 use Rattle.jjob.specs.declared.job.JobSource.{JobSource}
-use Rattle.jjob.specs.Limits.{default_heap, default_depth, default_steps, most_codes, most_classes, most_picks}
+use Rattle.jjob.specs.JobLimits.{default_heap, default_depth, default_steps, most_codes, most_classes, most_picks}
 use Rattle.jjob.specs.declared.line.Said.{Said}
 use Rattle.jjob.specs.declared.line.Said.TheVariants.{Policy, Prop, Cwd, Code, Class, Main, Schedule, Heap, Depth, Steps}
 use Rattle.jjob.specs.JobLines.{is_kept, said_of}

@@ -4,7 +4,7 @@ use Rattle.std.specs.Prelude.{List, Option, Bool, None, true, Some, ℕ, ◌==�
 use Rattle.jjob.specs.declared.line.Said.{Said}
 use Rattle.jjob.specs.Jobs.{clashes}
 use Rattle.jjob.specs.declared.line.Said.TheVariants.{Prop}
-use Rattle.jjob.specs.Words.{Word}
+use Rattle.jjob.specs.CommandWords.{Word}
 use Rattle.jjob.specs.declared.command.Command.{Command}
 use Rattle.jjob.specs.declared.command.Command.TheVariants.{Rewrite}
 
@@ -17,7 +17,7 @@ is_bad before = elim [ None ↦ true | Some said ↦ clashes before said ]
 abbrev pub name_in : Said → Option (List ℕ)
 name_in = elim [ Prop name value ↦ Some name | _ ↦ None ]
 
--- ---- of Words
+-- ---- of CommandWords
 
 -- a rewriting of a job, stored below a folder that has a name
 abbrev pub rewriting : Word → Word → Option Command

@@ -2,9 +2,9 @@ ghost use Rattle.std.specs.Prelude.{◌≡◌};
 ghost use Rattle.jjob.specs.declared.job.JobError.TheVariants.{Memory};
 
 use crate::text::Text;
+use jdomain::CodeSource;
 use jground::jbase::Seq;
 use jground::jtext::Units;
-use jrights::jdomain::CodeSource;
 use std::alloc::AllocError;
 use thiserror::Error;
 

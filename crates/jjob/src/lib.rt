@@ -1,15 +1,15 @@
 //! What the program is asked to do: the words of a command line, and jobs.
 //!
-//! - `Limits`: how much words and a job may say (`IsWithin`).
-//! - `Words`: what words say (`said`), and the command that they are.
-//! - `App`, `Rows`: the parser of the kit's `clap` that reads them, and what its rows say.
+//! - `JobLimits`: how much words and a job may say (`IsWithin`).
+//! - `CommandWords`: what words say (`said`), and the command that they are.
+//! - `CommandOptions`, `ParseRows`: the parser of the kit's `clap` that reads them, and what its rows say.
 //! - `JobNumbers`, `JobLines`: a job's numbers, and what a line says by itself.
 //! - `Jobs`: what may not be said behind what was said before, the first bad line, and the job of all lines.
 //! - `JobNames`: the first line that says a property's name again, the digests by which it is seen that there is none, and the sorted names
 //!   by which it is found.
-//! - `JobTold`, `JobReading`: what is told behind some lines, lines that are bad whatever the names of properties are, and what the reader
+//! - `JobReaderState`, `JobLineAnswers`: what is told behind some lines, lines that are bad whatever the names of properties are, and what the reader
 //!   answers to the next one.
-//! - `Storing`: the text of a job with other class files.
+//! - `StoredJobText`: the text of a job with other class files.
 //!
 //! Proved: `read_words` answers the command exactly where the words are one, and Usage exactly where they are none; `read_job` answers the
 //! job exactly where the bytes are one, and else the number of the first bad line; the job has no more code sources and class files than it
@@ -17,8 +17,6 @@
 //! gives the lines in their order, each ended, with other paths in the lines of class files.
 //!
 //! `ProofNames` are names by which proofs and contracts of inner functions call what the definitions say in place.
-//!
-//! Rooms of jobs and the top may name it, and tests.
 #![tactic(auto)]
 
 mod command;

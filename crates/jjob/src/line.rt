@@ -4,8 +4,8 @@ ghost use Rattle.jjob.specs.JobLines.{SaysNoProp, code_said, counted, cwd_said, 
 
 use crate::number::{number_up_to, numbers_up_to, small_up_to};
 use crate::text::Text;
+use jdomain::{CodeSource, SourceError};
 use jground::jbase::Seq;
-use jrights::jdomain::{CodeSource, SourceError};
 use std::alloc::{AllocError, Global};
 
 /// The most cells of a heap.

@@ -1,6 +1,6 @@
 ghost use Rattle.std.specs.Prelude.{◌≡◌, [], ◌∷◌, length, ◌<◌, ◌≤◌, ◌==◌, IfNone, IfOk, IfSome, Some, None};
 ghost use Rattle.std.specs.List.{slice_split};
-ghost use Rattle.jground.specs.jbase.Each.{each_some};
+ghost use Rattle.jground.specs.jbase.ListMaps.{each_some};
 ghost use Rattle.jjob.specs.JobNumbers.{number_up_to};
 
 use jground::jbase::Seq;

@@ -1,8 +1,8 @@
 ghost use Rattle.std.specs.Prelude.{◌≡◌, [], ◌∷◌, ◌++◌, ℕ, List, OnOk, true};
 ghost use Rattle.jjob.specs.JobLines.{SaysNoProp, is_kept, said_of};
 ghost use Rattle.jjob.specs.Jobs.{said_by};
-ghost use Rattle.jjob.specs.JobReading.{TakesLine};
-ghost use Rattle.jjob.specs.JobTold.{IsTold};
+ghost use Rattle.jjob.specs.JobLineAnswers.{TakesLine};
+ghost use Rattle.jjob.specs.JobReaderState.{IsTold};
 ghost use Rattle.jjob.specs.JobNames.{digests_of};
 
 use crate::digests::add_digest;

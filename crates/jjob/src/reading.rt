@@ -2,9 +2,9 @@ ghost use Rattle.std.specs.Prelude.{◌≡◌, ◌∷◌, [], ◌<◌, ◌≤◌
 ghost use Rattle.std.specs.Str.{is_utf8};
 ghost use Rattle.std.specs.Str.Lossy.{utf8_valid_len};
 ghost use Rattle.jjob.specs.Jobs.{JobGives, job, job_in, line_at, lines_of, number_of_lines};
-ghost use Rattle.jjob.specs.JobReading.{IsSkipped, Skips, TakesAll, TellsAll};
-ghost use Rattle.jjob.specs.JobTold.{IsTold};
-ghost use Rattle.jjob.specs.Limits.{IsWithin};
+ghost use Rattle.jjob.specs.JobLineAnswers.{IsSkipped, Skips, TakesAll, TellsAll};
+ghost use Rattle.jjob.specs.JobReaderState.{IsTold};
+ghost use Rattle.jjob.specs.JobLimits.{IsWithin};
 
 use crate::job::{Job, JobError};
 use crate::names::{first_again_by, first_again_to};

@@ -1,6 +1,6 @@
 ghost use Rattle.std.specs.Prelude.{◌≡◌, ◌++◌, ◌∷◌, [], IfOk, OnOk, drop};
-ghost use Rattle.jjob.specs.Storing;
-ghost use Rattle.jjob.specs.Storing.{line_with, lines_with, paths_behind};
+ghost use Rattle.jjob.specs.StoredJobText;
+ghost use Rattle.jjob.specs.StoredJobText.{line_with, lines_with, paths_behind};
 
 use crate::reading::first_line;
 use crate::text::Text;
@@ -9,14 +9,14 @@ use std::alloc::{AllocError, Global};
 
 /// Whether a line names a class file.
 fn names_class(line: &str) -> bool
-    ensures { result ≡ Storing.names_class line.now }
+    ensures { result ≡ StoredJobText.names_class line.now }
 {
     line.as_bytes().starts_with(b"class ")
 }
 
 /// Puts a line that names a class file behind others, with the first of some paths in the place of its own.
 fn put_class<'a>(line: &str, paths: &'a [Text], out: &mut Seq<u8>) -> Result<&'a [Text], AllocError>
-    ensures out { OnOk result (out.new ≡ out.old ++ Storing.with_first paths.now line.now) }
+    ensures out { OnOk result (out.new ≡ out.old ++ StoredJobText.with_first paths.now line.now) }
     ensures left { IfOk result (λ left. left.now ≡ drop 1 paths.now) }
 {
     match paths {
@@ -67,9 +67,9 @@ fn put_last(line: &str, paths: &[Text], out: &mut Seq<u8>) -> Result<(), AllocEr
 }
 
 /// The text of a job with these paths in the place of those of its class files, in their order. Each line is ended by a line feed.
-#[tactic(auto, unfolding(crate::specs::Storing::stored_job))]
+#[tactic(auto, unfolding(crate::specs::StoredJobText::stored_job))]
 pub fn stored_job(alloc: Global, text: &str, paths: &[Text]) -> Result<Seq<u8>, AllocError>
-    ensures { IfOk result (λ out. out ≡ Storing.stored_job text.now paths.now) }
+    ensures { IfOk result (λ out. out ≡ StoredJobText.stored_job text.now paths.now) }
 {
     let mut out = Seq::new(alloc);
     let mut left = paths;

@@ -1,10 +1,10 @@
 ghost use Rattle.std.specs.Prelude.{◌≡◌, [], ◌∷◌, ◌++◌, ◌<◌, List, IfOk, OnOk, None, false, codes, length, unwrap_or};
 ghost use Rattle.std.specs.Option.{option_map, option_to_list};
-ghost use Rattle.jground.specs.jbase.First.{first_some};
+ghost use Rattle.jground.specs.jbase.FirstFaults.{first_some};
 ghost use Rattle.jjob.specs.declared.line.Said.{Said as SaidValue};
 ghost use Rattle.jjob.specs.declared.line.Said.TheVariants.{Class, Code, Prop};
 ghost use Rattle.jjob.specs.Jobs.{job_of, main_in};
-ghost use Rattle.jjob.specs.JobTold.{IsTold, after, is_too_much};
+ghost use Rattle.jjob.specs.JobReaderState.{IsTold, after, is_too_much};
 
 use crate::job::{
     DEFAULT_DEPTH, DEFAULT_HEAP, DEFAULT_STEPS, Job, JobSource, MOST_CLASSES, MOST_CODES,
@@ -12,9 +12,9 @@ use crate::job::{
 };
 use crate::line::Said;
 use crate::text::{Text, units_of, widened};
+use jdomain::CodeSource;
 use jground::jbase::Seq;
 use jground::jtext::Units;
-use jrights::jdomain::CodeSource;
 use std::alloc::{AllocError, Global};
 
 /// What the lines so far give.
@@ -58,7 +58,7 @@ impl Told {
     }
 
     /// Whether something may not be said again, or is more than a job may have. Names of properties aren't looked at.
-    #[tactic(auto, unfolding(crate::specs::JobTold::is_too_much))]
+    #[tactic(auto, unfolding(crate::specs::JobReaderState::is_too_much))]
     pub fn is_too_much(&self, said: &Said) -> bool
         ensures { result ≡ is_too_much self.now said.now }
     {
@@ -79,7 +79,7 @@ impl Told {
     }
 
     /// Adds what a line says.
-    #[tactic(auto, using(crate::proofs::JobTold::told_more))]
+    #[tactic(auto, using(crate::proofs::JobPrefixes::told_more))]
     pub fn add(&mut self, alloc: Global, said: Said) -> Result<(), AllocError>
         requires { is_too_much self.old said ≡ false }
         ensures { (before : List SaidValue) → IsTold before self.old → OnOk result (IsTold (before ++ said ∷ []) self.new) }
@@ -88,7 +88,7 @@ impl Told {
     }
 
     /// Adds a property.
-    #[tactic(auto, using(crate::proofs::JobTold::told_more), unfolding(crate::specs::JobTold::is_too_much))]
+    #[tactic(auto, using(crate::proofs::JobPrefixes::told_more), unfolding(crate::specs::JobReaderState::is_too_much))]
     pub fn add_prop(&mut self, alloc: Global, name: &str, value: &str) -> Result<(), AllocError>
         ensures { (before : List SaidValue) → IsTold before self.old → OnOk result (IsTold (before ++ Prop name.now value.now ∷ []) self.new) }
     {
@@ -132,7 +132,7 @@ impl Told {
     }
 
     /// Puts what a line says to its field.
-    #[tactic(auto, unfolding(crate::specs::JobTold::is_too_much, crate::specs::JobTold::after))]
+    #[tactic(auto, unfolding(crate::specs::JobReaderState::is_too_much, crate::specs::JobReaderState::after))]
     fn put(&mut self, alloc: Global, said: Said) -> Result<(), AllocError>
         requires { is_too_much self.old said ≡ false }
         ensures { OnOk result (self.new ≡ after self.old said) }
@@ -153,7 +153,7 @@ impl Told {
     }
 
     /// Puts a property to the others.
-    #[tactic(auto, unfolding(crate::specs::JobTold::after))]
+    #[tactic(auto, unfolding(crate::specs::JobReaderState::after))]
     fn put_prop(&mut self, alloc: Global, name: &str, value: &str) -> Result<(), AllocError>
         ensures { OnOk result (self.new ≡ after self.old (Prop name.now value.now)) }
     {
@@ -163,7 +163,7 @@ impl Told {
     }
 
     /// Begins a code source.
-    #[tactic(auto, unfolding(crate::specs::JobTold::after))]
+    #[tactic(auto, unfolding(crate::specs::JobReaderState::after))]
     fn add_code(&mut self, alloc: Global, source: CodeSource) -> Result<(), AllocError>
         requires { self.old.codes < 4096 }
         ensures { OnOk result (self.new ≡ after self.old (Code source)) }
@@ -180,7 +180,7 @@ impl Told {
     }
 
     /// Adds a class file to the last code source.
-    #[tactic(auto, unfolding(crate::specs::JobTold::after))]
+    #[tactic(auto, unfolding(crate::specs::JobReaderState::after))]
     fn add_class(&mut self, path: Text) -> Result<(), AllocError>
         requires { self.old.classes < 65535 }
         ensures { OnOk result (self.new ≡ after self.old (Class path)) }

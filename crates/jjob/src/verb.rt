@@ -1,6 +1,6 @@
 ghost use Rattle.std.specs.Prelude.{◌≡◌, map};
 ghost use Rattle.std.specs.Option.{option_copied};
-ghost use Rattle.jjob.specs.Words.{WordsGive, by_verb, form_named, form_or_pass, generated, with_one, with_two};
+ghost use Rattle.jjob.specs.CommandWords.{WordsGive, by_verb, form_named, form_or_pass, generated, with_one, with_two};
 ghost use Rattle.jjob.specs.ProofNames.{rewriting};
 
 use crate::command::{Command, Form, WordsError};

@@ -1,8 +1,8 @@
 ghost use Rattle.std.specs.Prelude.{◌≡◌, IfOk, false};
 ghost use Rattle.clap.specs.Words.{FailsBy, fault_of, found_of, matches_of, rows_of};
-ghost use Rattle.jjob.specs.App.{app};
-ghost use Rattle.jjob.specs.Words.{WordsGive, command, said, words_of};
-ghost use Rattle.jjob.specs.Rows.{SaidGive, cause_of, said_in};
+ghost use Rattle.jjob.specs.CommandOptions.{app};
+ghost use Rattle.jjob.specs.CommandWords.{WordsGive, command, said, words_of};
+ghost use Rattle.jjob.specs.ParseRows.{SaidGive, cause_of, said_in};
 
 use crate::command::{Command, WordsError};
 use crate::verb::by_verb;
@@ -15,7 +15,7 @@ use std::alloc::Global;
 /// They have an option `--form` of one value (`inspect`, `pass` or `plain`), given as `--form plain` or `--form=plain`, at most once
 /// and anywhere before `--`. All words behind `--` are taken as they are, and so is `-`; any other word that begins with `-` is
 /// refused. `WordsError::Usage` is answered exactly where the words are no command.
-#[tactic(auto, unfolding(crate::specs::Words::command))]
+#[tactic(auto, unfolding(crate::specs::CommandWords::command))]
 pub fn read_words(alloc: Global, words: &[String]) -> Result<Command, WordsError>
     ensures { WordsGive result (command (words_of words.now)) }
 {

@@ -1,3 +1,3 @@
-pub mod Beginning
-pub mod Found
-pub mod Placed
+pub mod NamePrefixes
+pub mod LibraryLookup
+pub mod ClassPlaces

@@ -1,4 +1,4 @@
-pub mod Beginnings
-pub mod Calls
-pub mod Classes
-pub mod Places
+pub mod NamePrefixes
+pub mod LibraryMembers
+pub mod LibraryClasses
+pub mod LibraryPlaces

@@ -1,5 +1,5 @@
 ghost use Rattle.std.specs.Prelude.{◌≡◌};
-ghost use Rattle.jlib.specs.Calls;
+ghost use Rattle.jlib.specs.LibraryMembers;
 ghost use Rattle.jlib.specs.declared.calls.LibCall.TheVariants as calls;
 
 use crate::classes::{LibClass, PermissionClass, Thrown};
@@ -30,7 +30,7 @@ pub(crate) enum MemberKind {
 /// What is printed or appended.
 #[rattlefmt::skip]
 #[derive(Clone, Copy, Debug, PartialEq, Eq)]
-pub enum Piece { Int, Long, Char, Bool, Text }
+pub enum PrintedType { Int, Long, Char, Bool, Text }
 
 /// A method of String.
 #[rattlefmt::skip]
@@ -44,7 +44,7 @@ pub enum BuilderCall {
     Init,
     /// The constructor of a text.
     InitText,
-    Append(Piece),
+    Append(PrintedType),
     ToString,
 }
 
@@ -108,7 +108,7 @@ pub enum LibCall {
     /// println of nothing
     PrintEnd,
     /// println
-    Print(Piece),
+    Print(PrintedType),
     /// Runnable's run. On the passing side it is given a context.
     Run(Side),
     Thread(ThreadCall),
@@ -120,17 +120,17 @@ pub enum LibCall {
     PermissionInit(PermissionInit), Rt(RtCall),
 }
 
-impl Piece {
+impl PrintedType {
     /// The row of println of such a piece.
     fn print_row(self) -> MemberRow
-        ensures { result ≡ Calls.row_of (calls.Print self) }
+        ensures { result ≡ LibraryMembers.row_of (calls.Print self) }
     {
         table! { self;
-            Piece::Int => method(LibClass::PrintStream, b"println", b"(I)V");
-            Piece::Long => method(LibClass::PrintStream, b"println", b"(J)V");
-            Piece::Char => method(LibClass::PrintStream, b"println", b"(C)V");
-            Piece::Bool => method(LibClass::PrintStream, b"println", b"(Z)V");
-            Piece::Text => method(LibClass::PrintStream, b"println", b"(Ljava/lang/String;)V");
+            PrintedType::Int => method(LibClass::PrintStream, b"println", b"(I)V");
+            PrintedType::Long => method(LibClass::PrintStream, b"println", b"(J)V");
+            PrintedType::Char => method(LibClass::PrintStream, b"println", b"(C)V");
+            PrintedType::Bool => method(LibClass::PrintStream, b"println", b"(Z)V");
+            PrintedType::Text => method(LibClass::PrintStream, b"println", b"(Ljava/lang/String;)V");
         }
     }
 }
@@ -138,7 +138,7 @@ impl Piece {
 impl StringCall {
     /// Its row of the table of members.
     fn row(self) -> MemberRow
-        ensures { result ≡ Calls.row_of (calls.String self) }
+        ensures { result ≡ LibraryMembers.row_of (calls.String self) }
     {
         table! { self;
             StringCall::Length => method(LibClass::String, b"length", b"()I");
@@ -152,16 +152,16 @@ impl StringCall {
 impl BuilderCall {
     /// Its row of the table of members.
     fn row(self) -> MemberRow
-        ensures { result ≡ Calls.row_of (calls.Builder self) }
+        ensures { result ≡ LibraryMembers.row_of (calls.Builder self) }
     {
         table! { self;
             BuilderCall::Init => constructor(LibClass::StringBuilder, b"()V");
             BuilderCall::InitText => constructor(LibClass::StringBuilder, b"(Ljava/lang/String;)V");
-            BuilderCall::Append(Piece::Int) => method(LibClass::StringBuilder, b"append", b"(I)Ljava/lang/StringBuilder;");
-            BuilderCall::Append(Piece::Long) => method(LibClass::StringBuilder, b"append", b"(J)Ljava/lang/StringBuilder;");
-            BuilderCall::Append(Piece::Char) => method(LibClass::StringBuilder, b"append", b"(C)Ljava/lang/StringBuilder;");
-            BuilderCall::Append(Piece::Bool) => method(LibClass::StringBuilder, b"append", b"(Z)Ljava/lang/StringBuilder;");
-            BuilderCall::Append(Piece::Text) => method(LibClass::StringBuilder, b"append", b"(Ljava/lang/String;)Ljava/lang/StringBuilder;");
+            BuilderCall::Append(PrintedType::Int) => method(LibClass::StringBuilder, b"append", b"(I)Ljava/lang/StringBuilder;");
+            BuilderCall::Append(PrintedType::Long) => method(LibClass::StringBuilder, b"append", b"(J)Ljava/lang/StringBuilder;");
+            BuilderCall::Append(PrintedType::Char) => method(LibClass::StringBuilder, b"append", b"(C)Ljava/lang/StringBuilder;");
+            BuilderCall::Append(PrintedType::Bool) => method(LibClass::StringBuilder, b"append", b"(Z)Ljava/lang/StringBuilder;");
+            BuilderCall::Append(PrintedType::Text) => method(LibClass::StringBuilder, b"append", b"(Ljava/lang/String;)Ljava/lang/StringBuilder;");
             BuilderCall::ToString => method(LibClass::StringBuilder, b"toString", b"()Ljava/lang/String;");
         }
     }
@@ -170,7 +170,7 @@ impl BuilderCall {
 impl ThreadCall {
     /// Its row of the table of members.
     fn row(self) -> MemberRow
-        ensures { result ≡ Calls.row_of (calls.Thread self) }
+        ensures { result ≡ LibraryMembers.row_of (calls.Thread self) }
     {
         table! { self;
             ThreadCall::Init(Side::Source) => constructor_on(Side::Source, LibClass::Thread, b"(Ljava/lang/Runnable;)V");
@@ -185,7 +185,7 @@ impl ThreadCall {
 impl ControllerCall {
     /// Its row of the table of members.
     fn row(self) -> MemberRow
-        ensures { result ≡ Calls.controller_row self }
+        ensures { result ≡ LibraryMembers.controller_row self }
     {
         table! { self;
             ControllerCall::Check => static_on(Side::Source, LibClass::AccessController, b"checkPermission", b"(Ljava/security/Permission;)V");
@@ -202,7 +202,7 @@ impl ControllerCall {
 impl PermissionInit {
     /// Its row of the table of members.
     fn row(self) -> MemberRow
-        ensures { result ≡ Calls.permission_row self }
+        ensures { result ≡ LibraryMembers.permission_row self }
     {
         table! { self;
             PermissionInit::All => constructor(LibClass::Permission(PermissionClass::AllPermission), b"()V");
@@ -219,7 +219,7 @@ impl PermissionInit {
 impl RtCall {
     /// Its row of the table of members.
     fn row(self) -> MemberRow
-        ensures { result ≡ Calls.rt_row self }
+        ensures { result ≡ LibraryMembers.rt_row self }
     {
         table! { self;
             RtCall::Enter => static_on(Side::Passing, LibClass::Rt, b"enter", b"(Lsps/Ctx;I)Lsps/Ctx;");
@@ -237,7 +237,7 @@ impl RtCall {
 impl LibCall {
     /// Its row of the table of members.
     fn row(self) -> MemberRow
-        ensures { result ≡ Calls.row_of self }
+        ensures { result ≡ LibraryMembers.row_of self }
     {
         table! { self;
             LibCall::ObjectInit => constructor(LibClass::Object, b"()V");
@@ -264,35 +264,35 @@ impl LibCall {
 
     /// The class that declares it.
     pub fn owner(self) -> LibClass
-        ensures { result ≡ Calls.owner self }
+        ensures { result ≡ LibraryMembers.owner self }
     {
         self.row().owner()
     }
 
     /// Its name, `<init>` of a constructor.
     pub fn name(self) -> &'static [u8]
-        ensures { result.now ≡ Calls.name_of_call self }
+        ensures { result.now ≡ LibraryMembers.name_of_call self }
     {
         self.row().name()
     }
 
     /// Its descriptor (JVMS 4.3).
     pub fn desc(self) -> &'static [u8]
-        ensures { result.now ≡ Calls.desc_of self }
+        ensures { result.now ≡ LibraryMembers.desc_of self }
     {
         self.row().desc()
     }
 
     /// Whether it is the field, `System.out`.
     pub fn is_field(self) -> bool
-        ensures { result ≡ Calls.is_field self }
+        ensures { result ≡ LibraryMembers.is_field self }
     {
         matches!(self.row().kind(), MemberKind::StaticField)
     }
 
     /// Whether it is static.
     pub fn is_static(self) -> bool
-        ensures { result ≡ Calls.is_static self }
+        ensures { result ≡ LibraryMembers.is_static self }
     {
         matches!(
             self.row().kind(),
@@ -302,14 +302,14 @@ impl LibCall {
 
     /// Whether a side's library has it.
     pub fn stands_on(self, side: Side) -> bool
-        ensures { result ≡ Calls.call_stands_on side self }
+        ensures { result ≡ LibraryMembers.call_stands_on side self }
     {
         self.row().sides().include(side)
     }
 
     /// Whether it has this name and descriptor.
     pub fn is_called(self, name: &[u8], desc: &[u8]) -> bool
-        ensures { result ≡ Calls.is_called name.now desc.now self }
+        ensures { result ≡ LibraryMembers.is_called name.now desc.now self }
     {
         name == self.name() && desc == self.desc()
     }

@@ -1,5 +1,5 @@
 ghost use Rattle.std.specs.Prelude.{◌≡◌, Some, None};
-ghost use Rattle.jlib.specs.Classes;
+ghost use Rattle.jlib.specs.LibraryClasses;
 ghost use Rattle.jlib.specs.declared.classes.ClassKind.TheVariants as kinds;
 ghost use Rattle.jlib.specs.declared.side.Sides.TheVariants as sides;
 
@@ -19,7 +19,7 @@ pub(crate) struct ClassRow {
 }
 
 impl Model for ClassRow {
-    ghost use Rattle.jlib.specs.Classes.{Class};
+    ghost use Rattle.jlib.specs.LibraryClasses.{Class};
 
     ghost Value = { Class };
 
@@ -27,7 +27,7 @@ impl Model for ClassRow {
 }
 
 fn plain(kind: ClassKind, name: &'static [u8], superclass: LibClass) -> ClassRow
-    ensures { result ≡ Classes.plain kind name.now superclass }
+    ensures { result ≡ LibraryClasses.plain kind name.now superclass }
 {
     ClassRow {
         name,
@@ -39,32 +39,32 @@ fn plain(kind: ClassKind, name: &'static [u8], superclass: LibClass) -> ClassRow
 }
 
 pub(crate) fn open(name: &'static [u8], superclass: LibClass) -> ClassRow
-    ensures { result ≡ Classes.plain kinds.Open name.now superclass }
+    ensures { result ≡ LibraryClasses.plain kinds.Open name.now superclass }
 {
     plain(ClassKind::Open, name, superclass)
 }
 
 pub(crate) fn open_abstract(name: &'static [u8], superclass: LibClass) -> ClassRow
-    ensures { result ≡ Classes.plain kinds.OpenAbstract name.now superclass }
+    ensures { result ≡ LibraryClasses.plain kinds.OpenAbstract name.now superclass }
 {
     plain(ClassKind::OpenAbstract, name, superclass)
 }
 
 pub(crate) fn closed(name: &'static [u8], superclass: LibClass) -> ClassRow
-    ensures { result ≡ Classes.plain kinds.Closed name.now superclass }
+    ensures { result ≡ LibraryClasses.plain kinds.Closed name.now superclass }
 {
     plain(ClassKind::Closed, name, superclass)
 }
 
 pub(crate) fn closed_abstract(name: &'static [u8], superclass: LibClass) -> ClassRow
-    ensures { result ≡ Classes.plain kinds.ClosedAbstract name.now superclass }
+    ensures { result ≡ LibraryClasses.plain kinds.ClosedAbstract name.now superclass }
 {
     plain(ClassKind::ClosedAbstract, name, superclass)
 }
 
 /// An interface, whose class file names Object as its superclass (JVMS 4.1).
 pub(crate) fn interface(name: &'static [u8]) -> ClassRow
-    ensures { result ≡ Classes.an_interface name.now }
+    ensures { result ≡ LibraryClasses.an_interface name.now }
 {
     plain(ClassKind::Interface, name, LibClass::Object)
 }
@@ -97,8 +97,8 @@ impl ClassRow {
     }
 
     /// The row of a class that one side alone has.
-    pub(crate) fn alone(self, side: Side) -> ClassRow
-        ensures { result ≡ Classes.alone side self }
+    pub(crate) fn limit_to_side(self, side: Side) -> ClassRow
+        ensures { result ≡ LibraryClasses.alone side self }
     {
         ClassRow {
             name: self.name,

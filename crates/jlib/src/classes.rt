@@ -1,5 +1,5 @@
 ghost use Rattle.std.specs.Prelude.{◌≡◌};
-ghost use Rattle.jlib.specs.Classes;
+ghost use Rattle.jlib.specs.LibraryClasses;
 
 use crate::class_row::{ClassRow, closed, closed_abstract, interface, open, open_abstract, top};
 use crate::side::Side;
@@ -58,7 +58,7 @@ pub(crate) enum ClassKind {
 impl Thrown {
     /// Its row of the table of classes.
     fn row(self) -> ClassRow
-        ensures { result ≡ Classes.thrown_row self }
+        ensures { result ≡ LibraryClasses.thrown_row self }
     {
         table! { self;
             Thrown::Throwable => open(b"java/lang/Throwable", LibClass::Object);
@@ -91,7 +91,7 @@ impl Thrown {
 impl PermissionClass {
     /// Its row of the table of classes.
     fn row(self) -> ClassRow
-        ensures { result ≡ Classes.permission_row self }
+        ensures { result ≡ LibraryClasses.permission_row self }
     {
         table! { self;
             PermissionClass::Permission => closed_abstract(b"java/security/Permission", LibClass::Object);
@@ -108,7 +108,7 @@ impl PermissionClass {
 impl LibClass {
     /// Its row of the table of classes.
     fn row(self) -> ClassRow
-        ensures { result ≡ Classes.class_row self }
+        ensures { result ≡ LibraryClasses.class_row self }
     {
         table! { self;
             LibClass::Object => top(b"java/lang/Object");
@@ -127,56 +127,56 @@ impl LibClass {
             LibClass::AccessController => closed(b"java/security/AccessController", LibClass::Object);
             LibClass::AccessControlContext => closed(b"java/security/AccessControlContext", LibClass::Object);
             LibClass::Permission(permission) => permission.row();
-            LibClass::Rt => closed(b"sps/Rt", LibClass::Object).alone(Side::Passing);
-            LibClass::Ctx => closed(b"sps/Ctx", LibClass::Object).alone(Side::Passing);
+            LibClass::Rt => closed(b"sps/Rt", LibClass::Object).limit_to_side(Side::Passing);
+            LibClass::Ctx => closed(b"sps/Ctx", LibClass::Object).limit_to_side(Side::Passing);
         }
     }
 
     /// Its name, with `/` between packages (JVMS 4.2.1).
     pub fn name(self) -> &'static [u8]
-        ensures { result.now ≡ Classes.name_of self }
+        ensures { result.now ≡ LibraryClasses.name_of self }
     {
         self.row().name()
     }
 
     /// Whether a side's library has it.
     pub fn stands_on(self, side: Side) -> bool
-        ensures { result ≡ Classes.stands_on side self }
+        ensures { result ≡ LibraryClasses.stands_on side self }
     {
         self.row().sides().include(side)
     }
 
     /// The class that it extends: none of Object, and Object of an interface.
     pub fn superclass(self) -> Option<LibClass>
-        ensures { result ≡ Classes.superclass self }
+        ensures { result ≡ LibraryClasses.superclass self }
     {
         self.row().superclass()
     }
 
     /// The interface that it implements, by name alone: Thread is a Runnable, though it declares no `run`.
     pub fn implemented(self) -> Option<LibClass>
-        ensures { result ≡ Classes.implemented self }
+        ensures { result ≡ LibraryClasses.implemented self }
     {
         self.row().implemented()
     }
 
     /// Whether it is an interface. Users may implement each.
     pub fn is_interface(self) -> bool
-        ensures { result ≡ Classes.is_interface self }
+        ensures { result ≡ LibraryClasses.is_interface self }
     {
         matches!(self.row().kind(), ClassKind::Interface)
     }
 
     /// Whether users may extend it: Object, and what can be thrown.
     pub fn is_open(self) -> bool
-        ensures { result ≡ Classes.is_open self }
+        ensures { result ≡ LibraryClasses.is_open self }
     {
         matches!(self.row().kind(), ClassKind::Open | ClassKind::OpenAbstract)
     }
 
     /// Whether it is an abstract class, interfaces aside.
     pub fn is_abstract(self) -> bool
-        ensures { result ≡ Classes.is_abstract self }
+        ensures { result ≡ LibraryClasses.is_abstract self }
     {
         matches!(
             self.row().kind(),

@@ -3,8 +3,8 @@ ghost use Rattle.jlib.specs.declared.side.Side.{Side};
 ghost use Rattle.jlib.specs.declared.classes.LibClass.{LibClass};
 ghost use Rattle.jlib.specs.declared.classes.LibClass.TheVariants as lib;
 ghost use Rattle.jlib.specs.declared.calls.LibCall.{LibCall};
-ghost use Rattle.jlib.specs.Classes.{above, class_named, height, implemented, is_interface, is_open, name_of, stands_on, superclass};
-ghost use Rattle.jlib.specs.Calls.{IsMember, call_stands_on, desc_of, member_named, name_of_call, owner};
+ghost use Rattle.jlib.specs.LibraryClasses.{above, class_named, height, implemented, is_interface, is_open, name_of, stands_on, superclass};
+ghost use Rattle.jlib.specs.LibraryMembers.{IsMember, call_stands_on, desc_of, member_named, name_of_call, owner};
 
 /// The laws of classes. What is found has the name and is the side's, and each class of the side is found by its name, so that
 /// no two share one. What a class extends is no interface, and both sides have it; what a class implements is an interface, and

@@ -1,8 +1,8 @@
 ghost use Rattle.std.specs.Prelude.{◌≡◌, ◌&&◌, get_or};
 ghost use Rattle.std.specs.Str.{bytes_eq};
-ghost use Rattle.jlib.specs.Beginnings;
-ghost use Rattle.jlib.specs.Classes;
-ghost use Rattle.jlib.specs.Places;
+ghost use Rattle.jlib.specs.NamePrefixes;
+ghost use Rattle.jlib.specs.LibraryClasses;
+ghost use Rattle.jlib.specs.LibraryPlaces;
 
 use crate::classes::{LibClass, PermissionClass, Thrown};
 use crate::side::Side;
@@ -170,7 +170,7 @@ static PLACES: [Option<LibClass>; 128] = [
 
 /// Whether a name begins as the names of the library's classes do.
 fn begins_so(name: &[u8]) -> bool
-    ensures { result ≡ Beginnings.begins_so name.now }
+    ensures { result ≡ NamePrefixes.begins_so name.now }
 {
     name.starts_with(b"java/") || name.starts_with(b"sps/")
 }
@@ -187,7 +187,7 @@ fn byte_at(name: &[u8], at: usize) -> u8
 
 /// The place that a name has in the table, below 128: by its length and two of its bytes, so that no two classes share one.
 fn place(name: &[u8]) -> usize
-    ensures { result ≡ Places.place name.now }
+    ensures { result ≡ LibraryPlaces.place name.now }
 {
     let fifth = usize::from(byte_at(name, 5));
     let later = usize::from(byte_at(name, 14));
@@ -195,25 +195,25 @@ fn place(name: &[u8]) -> usize
 }
 
 /// The only class of either side that may have this name.
-#[tactic(auto, using(crate::proofs::Placed::table_at))]
+#[tactic(auto, using(crate::proofs::ClassPlaces::table_at))]
 fn candidate(name: &[u8]) -> Option<LibClass>
-    ensures { result ≡ Places.candidate name.now }
+    ensures { result ≡ LibraryPlaces.candidate name.now }
 {
     PLACES[place(name)]
 }
 
 /// Whether a side's library has a class, and by this name.
 fn is_named(class: LibClass, side: Side, name: &[u8]) -> bool
-    ensures { result ≡ (Classes.stands_on side class && bytes_eq name.now (Classes.name_of class)) }
+    ensures { result ≡ (LibraryClasses.stands_on side class && bytes_eq name.now (LibraryClasses.name_of class)) }
 {
     class.stands_on(side) && name == class.name()
 }
 
 /// The class of a side's library that has this name, with `/` between packages (JVMS 4.2.1); None exactly where the side has
 /// none.
-#[tactic(auto, using(crate::proofs::Beginning::none_named, crate::proofs::Placed::none_else, crate::proofs::Placed::this_one, crate::proofs::Placed::not_this))]
+#[tactic(auto, using(crate::proofs::NamePrefixes::none_named, crate::proofs::ClassPlaces::none_else, crate::proofs::ClassPlaces::this_one, crate::proofs::ClassPlaces::not_this))]
 pub fn class(side: Side, name: &[u8]) -> Option<LibClass>
-    ensures { result ≡ Classes.class_named side name.now }
+    ensures { result ≡ LibraryClasses.class_named side name.now }
 {
     if !begins_so(name) {
         return None;
@@ -227,7 +227,7 @@ pub fn class(side: Side, name: &[u8]) -> Option<LibClass>
 
 /// The classes that users may extend, which both sides have.
 pub fn open_classes() -> &'static [LibClass]
-    ensures { result.now ≡ Classes.open_classes }
+    ensures { result.now ≡ LibraryClasses.open_classes }
 {
     &OPEN
 }

@@ -1,5 +1,5 @@
 ghost use Rattle.std.specs.Prelude.{◌≡◌};
-ghost use Rattle.jlib.specs.Calls;
+ghost use Rattle.jlib.specs.LibraryMembers;
 ghost use Rattle.jlib.specs.declared.calls.MemberKind.TheVariants as kinds;
 ghost use Rattle.jlib.specs.declared.side.Sides.TheVariants as sided;
 
@@ -19,7 +19,7 @@ pub(crate) struct MemberRow {
 }
 
 impl Model for MemberRow {
-    ghost use Rattle.jlib.specs.Calls.{Member};
+    ghost use Rattle.jlib.specs.LibraryMembers.{Member};
 
     ghost Value = { Member };
 
@@ -27,7 +27,7 @@ impl Model for MemberRow {
 }
 
 pub(crate) fn static_field(owner: LibClass, name: &'static [u8], desc: &'static [u8]) -> MemberRow
-    ensures { result ≡ Calls.a_member sided.Both kinds.StaticField owner name.now desc.now }
+    ensures { result ≡ LibraryMembers.a_member sided.Both kinds.StaticField owner name.now desc.now }
 {
     MemberRow {
         owner,
@@ -39,7 +39,7 @@ pub(crate) fn static_field(owner: LibClass, name: &'static [u8], desc: &'static 
 }
 
 fn constructor_of(sides: Sides, owner: LibClass, desc: &'static [u8]) -> MemberRow
-    ensures { result ≡ Calls.constructor_of sides owner desc.now }
+    ensures { result ≡ LibraryMembers.constructor_of sides owner desc.now }
 {
     MemberRow {
         owner,
@@ -51,20 +51,20 @@ fn constructor_of(sides: Sides, owner: LibClass, desc: &'static [u8]) -> MemberR
 }
 
 pub(crate) fn constructor(owner: LibClass, desc: &'static [u8]) -> MemberRow
-    ensures { result ≡ Calls.constructor owner desc.now }
+    ensures { result ≡ LibraryMembers.constructor owner desc.now }
 {
     constructor_of(Sides::Both, owner, desc)
 }
 
 /// A constructor that one side alone has.
 pub(crate) fn constructor_on(side: Side, owner: LibClass, desc: &'static [u8]) -> MemberRow
-    ensures { result ≡ Calls.constructor_of (sided.Alone side) owner desc.now }
+    ensures { result ≡ LibraryMembers.constructor_of (sided.Alone side) owner desc.now }
 {
     constructor_of(Sides::Alone(side), owner, desc)
 }
 
 pub(crate) fn method(owner: LibClass, name: &'static [u8], desc: &'static [u8]) -> MemberRow
-    ensures { result ≡ Calls.method owner name.now desc.now }
+    ensures { result ≡ LibraryMembers.method owner name.now desc.now }
 {
     MemberRow {
         owner,
@@ -76,7 +76,7 @@ pub(crate) fn method(owner: LibClass, name: &'static [u8], desc: &'static [u8]) 
 }
 
 pub(crate) fn static_method(owner: LibClass, name: &'static [u8], desc: &'static [u8]) -> MemberRow
-    ensures { result ≡ Calls.a_member sided.Both kinds.StaticMethod owner name.now desc.now }
+    ensures { result ≡ LibraryMembers.a_member sided.Both kinds.StaticMethod owner name.now desc.now }
 {
     MemberRow {
         owner,
@@ -94,7 +94,7 @@ pub(crate) fn static_on(
     name: &'static [u8],
     desc: &'static [u8],
 ) -> MemberRow
-    ensures { result ≡ Calls.static_on side owner name.now desc.now }
+    ensures { result ≡ LibraryMembers.static_on side owner name.now desc.now }
 {
     MemberRow {
         owner,
@@ -112,7 +112,7 @@ pub(crate) fn abstract_on(
     name: &'static [u8],
     desc: &'static [u8],
 ) -> MemberRow
-    ensures { result ≡ Calls.abstract_on side owner name.now desc.now }
+    ensures { result ≡ LibraryMembers.abstract_on side owner name.now desc.now }
 {
     MemberRow {
         owner,

@@ -1,11 +1,11 @@
 ghost use Rattle.std.specs.Prelude.{◌≡◌};
-ghost use Rattle.jlib.specs.Calls.{member_among, member_named, members};
-ghost use Rattle.jlib.specs.Classes.{name_of};
+ghost use Rattle.jlib.specs.LibraryMembers.{member_among, member_named, members};
+ghost use Rattle.jlib.specs.LibraryClasses.{name_of};
 ghost use Rattle.jlib.specs.declared.classes.LibClass.TheVariants as classes;
 
 use crate::calls::{
-    BuilderCall, ControllerCall, LibCall, PermissionInit, Piece, RtCall, StringCall, ThreadCall,
-    ThrownInit,
+    BuilderCall, ControllerCall, LibCall, PermissionInit, PrintedType, RtCall, StringCall,
+    ThreadCall, ThrownInit,
 };
 use crate::classes::{LibClass, PermissionClass, Thrown};
 use crate::lookup::class;
@@ -25,11 +25,11 @@ const STRING: [LibCall; 4] = [
 const BUILDER: [LibCall; 8] = [
     LibCall::Builder(BuilderCall::Init),
     LibCall::Builder(BuilderCall::InitText),
-    LibCall::Builder(BuilderCall::Append(Piece::Int)),
-    LibCall::Builder(BuilderCall::Append(Piece::Long)),
-    LibCall::Builder(BuilderCall::Append(Piece::Char)),
-    LibCall::Builder(BuilderCall::Append(Piece::Bool)),
-    LibCall::Builder(BuilderCall::Append(Piece::Text)),
+    LibCall::Builder(BuilderCall::Append(PrintedType::Int)),
+    LibCall::Builder(BuilderCall::Append(PrintedType::Long)),
+    LibCall::Builder(BuilderCall::Append(PrintedType::Char)),
+    LibCall::Builder(BuilderCall::Append(PrintedType::Bool)),
+    LibCall::Builder(BuilderCall::Append(PrintedType::Text)),
     LibCall::Builder(BuilderCall::ToString),
 ];
 
@@ -37,11 +37,11 @@ const SYSTEM: [LibCall; 1] = [LibCall::Out];
 
 const PRINT_STREAM: [LibCall; 6] = [
     LibCall::PrintEnd,
-    LibCall::Print(Piece::Int),
-    LibCall::Print(Piece::Long),
-    LibCall::Print(Piece::Char),
-    LibCall::Print(Piece::Bool),
-    LibCall::Print(Piece::Text),
+    LibCall::Print(PrintedType::Int),
+    LibCall::Print(PrintedType::Long),
+    LibCall::Print(PrintedType::Char),
+    LibCall::Print(PrintedType::Bool),
+    LibCall::Print(PrintedType::Text),
 ];
 
 const RUNNABLE: [LibCall; 2] = [LibCall::Run(Side::Source), LibCall::Run(Side::Passing)];
@@ -158,7 +158,7 @@ fn member_of(side: Side, owner: LibClass, name: &[u8], desc: &[u8]) -> Option<Li
 
 /// The member that a class of the library declares itself on a side, by its name and descriptor: what `member` finds by the name
 /// of this class.
-#[tactic(auto, using(crate::proofs::Beginning::by_class))]
+#[tactic(auto, using(crate::proofs::NamePrefixes::by_class))]
 pub fn member_in(side: Side, owner: LibClass, name: &[u8], desc: &[u8]) -> Option<LibCall>
     ensures { result ≡ member_named side (name_of owner) name.now desc.now }
 {

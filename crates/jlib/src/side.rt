@@ -1,5 +1,5 @@
 ghost use Rattle.std.specs.Prelude.{◌≡◌};
-ghost use Rattle.jlib.specs.Classes;
+ghost use Rattle.jlib.specs.LibraryClasses;
 
 /// One of the two libraries: the one that programs are written for, and the one that they are moved to, whose calls are given a
 /// context.
@@ -15,7 +15,7 @@ pub(crate) enum Sides { Both, Alone(Side) }
 impl Sides {
     /// Whether a side is among them.
     pub(crate) fn include(self, side: Side) -> bool
-        ensures { result ≡ Classes.among self side }
+        ensures { result ≡ LibraryClasses.among self side }
     {
         match self {
             Sides::Both => true,

@@ -1,3 +1,3 @@
-pub mod Deciding
-pub mod Holding
+pub mod CheckOutcomes
+pub mod CheckRequests
 pub mod Messages

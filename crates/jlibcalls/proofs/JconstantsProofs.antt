@@ -1,4 +1,4 @@
-pub mod Nowhere
-pub mod Numbers
-pub mod Running
+pub mod PoolTexts
+pub mod UnnumberedRows
+pub mod ConstantLoads
 pub mod Tables

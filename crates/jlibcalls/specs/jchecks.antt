@@ -1,2 +1,2 @@
-pub mod Asks
-pub mod Judges
+pub mod PermissionQueries
+pub mod PermissionVerdicts

@@ -1,2 +1,2 @@
-pub mod Loads
-pub mod Made
+pub mod ConstantLoads
+pub mod StringConstants

@@ -1,8 +1,8 @@
-pub mod Acting
-pub mod Beginning
-pub mod Entering
-pub mod Kept
-pub mod Limits
-pub mod Privileging
-pub mod Requests
+pub mod ActionCalls
+pub mod RunnableStarts
+pub mod DomainEntries
+pub mod KeptContexts
+pub mod LimitPermissions
+pub mod PrivilegeCalls
+pub mod PrivilegeRequests
 pub mod Snapshots

@@ -1,4 +1,4 @@
-pub mod Held
-pub mod HeldLaws
-pub mod Ran
-pub mod Values
+pub mod HeldPermissions
+pub mod HeldPermissionLaws
+pub mod LibraryOutcomes
+pub mod CallOperands

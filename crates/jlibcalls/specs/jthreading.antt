@@ -1,6 +1,6 @@
-pub mod Finding
-pub mod Lasting
-pub mod Laws
-pub mod Making
-pub mod Switching
-pub mod Threading
+pub mod ThreadObjects
+pub mod ThreadEffects
+pub mod ThreadLaws
+pub mod ThreadConstructors
+pub mod ThreadFrames
+pub mod ThreadMethods

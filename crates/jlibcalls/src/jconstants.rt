@@ -2,14 +2,12 @@
 //! of its text; its units are decoded and looked up once for each of these, at the first time, and its object's number stands in a
 //! table from then on.
 //!
-//! - `Made`: the constants that were made, in the order in which the machine's store has them, and what is kept of them: their objects
+//! - `StringConstants`: the constants that were made, in the order in which the machine's store has them, and what is kept of them: their objects
 //!   by their units, and by classes and indices.
-//! - `Loads`: what a load comes to.
+//! - `ConstantLoads`: what a load comes to.
 //!
 //! Proved: `load` is jmachine's row of the instruction that pushes the text, for whatever the heap stands for, with the constants
 //! before and behind it; `get` gives the object without a frame, and `find` says whether it was made, by the definition's list.
-//!
-//! Rooms of the machine may name it.
 
 mod constants;
 mod known;

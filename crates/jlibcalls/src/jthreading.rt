@@ -1,11 +1,11 @@
 //! Calls of Thread: `yield_turn`, `start`, `join`, and its constructor (`named_by`, which says what it is given, and `make`).
 //!
-//! - `Finding`: which thread an object of the heap stands for.
-//! - `Switching`: the frames behind a call.
-//! - `Threading`: what a step comes to that calls a method of Thread.
-//! - `Making`: what its constructor is given, and the same of it, by what the new thread is said to keep.
-//! - `Lasting`: which threads and which frames a call leaves.
-//! - `Laws`: what calls of Thread ask.
+//! - `ThreadObjects`: which thread an object of the heap stands for.
+//! - `ThreadFrames`: the frames behind a call.
+//! - `ThreadMethods`: what a step comes to that calls a method of Thread.
+//! - `ThreadConstructors`: what its constructor is given, and the same of it, by what the new thread is said to keep.
+//! - `ThreadEffects`: which threads and which frames a call leaves.
+//! - `ThreadLaws`: what calls of Thread ask.
 //!
 //! Proved: each call does what the definition's step does that executes it, whatever the rules are: the thread goes on, or gives up its
 //! turn, or an exception is to be raised in its frames, or another thread is there, which isn't started. Each thread with frames was
@@ -13,8 +13,6 @@
 //! that has ended, unless the run is over. Behind a constructor no object names a permission or a kept number that none named before.
 //! `init_laws`: the constructor asks what its thread inherits, with the context that it is given; with other operands it asks nothing,
 //! and there is no step; the other calls ask nothing.
-//!
-//! Rooms of the machine may name it.
 
 mod finding;
 mod laws;

@@ -1,7 +1,5 @@
 //! The library's calls by number, as rooms: strings and builders (jlibrary), contexts (jcontexts), checks (jchecks), threads (jthreading)
 //! and constants (jconstants).
-//!
-//! Each room is a module, whose head says what it holds, what is proved of it and who may name it; its definitions lie in `specs/` under its
 //! name, and so does its part of `proofs/`.
 #![tactic(auto)]
 

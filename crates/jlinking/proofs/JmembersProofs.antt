@@ -1,7 +1,7 @@
-pub mod Along
-pub mod Barring
-pub mod Fixing
-pub mod Marking
-pub mod Meeting
-pub mod Numbering
-pub mod Testing
+pub mod FirstFaults
+pub mod FinalOverrides
+pub mod FixedMethods
+pub mod PoolTextMarks
+pub mod MemberSets
+pub mod TextNumbers
+pub mod MemberTests

@@ -1,3 +1,3 @@
-pub mod Few
-pub mod Finding
-pub mod Referring
+pub mod MethodCounts
+pub mod InstantiableClasses
+pub mod IndexedReferences

@@ -1,8 +1,8 @@
-pub mod Called
-pub mod Coded
-pub mod Fields
-pub mod Links
-pub mod Referred
-pub mod Selecting
-pub mod Sound
-pub mod Standing
+pub mod NamedCalls
+pub mod ProgramFiles
+pub mod NamedFields
+pub mod LinkedPrograms
+pub mod CodeReferences
+pub mod SelectedMethods
+pub mod SoundDescriptors
+pub mod ClassOrder

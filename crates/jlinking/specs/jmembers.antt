@@ -1,4 +1,4 @@
-pub mod Declares
-pub mod Known
-pub mod Met
-pub mod Sealed
+pub mod MemberDeclarations
+pub mod PoolTexts
+pub mod MemberSets
+pub mod FinalOverrides

@@ -1,12 +1,12 @@
 //! Programs that link: a type that only linking makes.
 //!
-//! - `Standing`: the classes of a program that links stand in order.
-//! - `Fields`: what linking says of a field that an instruction names.
-//! - `Links`: the first broken rule, the four phases one after the other; what may be linked.
-//! - `Referred`: the references that an instruction names.
-//! - `Selecting`: what a selected method is called.
-//! - `Coded`, `Sound`: what instructions stand on, parts that are class files among it, and descriptors without float and double.
-//! - `Called`: what linking says of a call that an instruction names.
+//! - `ClassOrder`: the classes of a program that links stand in order.
+//! - `NamedFields`: what linking says of a field that an instruction names.
+//! - `LinkedPrograms`: the first broken rule, the four phases one after the other; what may be linked.
+//! - `CodeReferences`: the references that an instruction names.
+//! - `SelectedMethods`: what a selected method is called.
+//! - `ProgramFiles`, `SoundDescriptors`: what instructions stand on, parts that are class files among it, and descriptors without float and double.
+//! - `NamedCalls`: what linking says of a call that an instruction names.
 //!
 //! Proved: `link` and `link_or_return` answer the program exactly where no rule is broken, and else the first broken rule with class,
 //! member and kind, the latter with the parts handed back; a linked program is an `Ancestry`, `resolve` is resolution where an
@@ -17,8 +17,6 @@
 //! meaning, and leads to instructions of its method. `call_law`: no instruction but one that calls a constructor names one, and one of
 //! the library's is that of the class by which it is named. `name_law`: no class file's class has the empty name. `are_files`: the parts
 //! of a linked program are class files.
-//!
-//! Rooms of checking, the machine, moving, jobs and the top may name it, and tests.
 
 mod ancestry;
 mod error;

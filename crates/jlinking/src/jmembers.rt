@@ -1,13 +1,11 @@
 //! The third phase of linking: what members a class may declare (JVMS 4.5, 4.6, 5.4.5).
 //!
-//! - `Declares`: the tests with their places, methods before fields: twice, left out, missing classes, methods that the library fixes,
+//! - `MemberDeclarations`: the tests with their places, methods before fields: twice, left out, missing classes, methods that the library fixes,
 //!   final methods.
-//! - `Met`, `Known`: the texts of a pool by numbers, what was met.
-//! - `Sealed`: final methods above, as one walk looks for them.
+//! - `MemberSets`, `PoolTexts`: the texts of a pool by numbers, what was met.
+//! - `FinalOverrides`: final methods above, as one walk looks for them.
 //!
 //! Proved: `members_fault` is the first fault of the phase, for every program.
-//!
-//! Rooms of linking and moving may name it, and tests.
 
 mod again;
 mod class_texts;

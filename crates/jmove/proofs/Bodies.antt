@@ -6,8 +6,8 @@ use Rattle.jmove.specs.declared.method.Expand.{Expand}
 use Rattle.jmove.specs.declared.method.MoveError.{MoveError}
 use Rattle.jmove.specs.declared.naming.Security.TheVariants.{Enter}
 use Rattle.jmove.specs.declared.naming.Named.{Named}
-use Rattle.jmove.specs.Additions.{Adding, giving, ◌>>◌, with_security, with_expansions, with_frames, with_body, IsFront, Refused}
-use Rattle.jmove.proofs.Growing.{Grows, expansions_grow, first_refused, frames_grow, giving_grows, second_refused, security_grows, then_adds, then_grows}
+use Rattle.jmove.specs.PoolAdditions.{Adding, giving, ◌>>◌, with_security, with_expansions, with_frames, with_body, IsFront, Refused}
+use Rattle.jmove.proofs.PoolGrowth.{Grows, expansions_grow, first_refused, frames_grow, giving_grows, second_refused, security_grows, then_adds, then_grows}
 
 abbrev named : ℕ → List Expand → ℕ → Named
 named enter js context = record { enter = enter; kinds = js; context = context }

@@ -8,9 +8,9 @@ use Rattle.jparts.specs.jcode.Instructions.{size}
 use Rattle.jmove.specs.declared.method.Expand.{Expand}
 use Rattle.jmove.specs.declared.method.Expand.TheVariants.{Same, Call, Check, Snapshot, Privileged, PrivilegedWith, PrivilegedLimited}
 use Rattle.jmove.specs.declared.method.Setting.{Setting}
-use Rattle.jmove.specs.Lines.{reach, end_of, Laid}
-use Rattle.jmove.specs.Moved.{move_ref, push_int, call_static, calling, prologue, expansion, expansions}
-use Rattle.jmove.proofs.Assembling.{end_reach}
+use Rattle.jmove.specs.AssemblyLines.{reach, end_of, Laid}
+use Rattle.jmove.specs.MethodExpansion.{move_ref, push_int, call_static, calling, prologue, expansion, expansions}
+use Rattle.jmove.proofs.LineSequences.{end_reach}
 use Rattle.jmove.proofs.Sizes.{size_some, size_moved, push_size, call_size, calling_size, move_at_most}
 
 pub expansion_above : (s : Setting) (k : Expand) (o : Op) (at p : ℕ) → reach at (expansion s k o) ≤ at + size p o + 10

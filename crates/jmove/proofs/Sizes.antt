@@ -10,11 +10,11 @@ use Rattle.jparts.specs.declared.jcode.head.OtherHead.TheVariants as other
 use Rattle.jparts.specs.declared.jcode.names.LocalKind.TheVariants.{Ref}
 use Rattle.jparts.specs.declared.jcode.op.LocalOp.TheVariants.{At}
 use Rattle.jparts.specs.declared.jcode.op.Wide.TheVariants.{Local}
-use Rattle.jparts.specs.jcode.Operands.{Operand, operands, wide, interface_call}
+use Rattle.jparts.specs.jcode.OperandFormats.{Operand, operands, wide, interface_call}
 use Rattle.jparts.specs.jcode.Instructions.{size, instruction, behind, parts}
 use Rattle.jparts.proofs.JcodeProofs.Sizes.{table_length, lookup_length}
-use Rattle.jmove.specs.Lines.{with_branches}
-use Rattle.jmove.specs.Moved.{move_ref, push_int, call_static, calling}
+use Rattle.jmove.specs.AssemblyLines.{with_branches}
+use Rattle.jmove.specs.MethodExpansion.{move_ref, push_int, call_static, calling}
 
 pub size_some : (at : ℕ) (op : Op) → 1 ≤ size at op
 unfolding size instruction

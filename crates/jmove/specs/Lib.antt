@@ -1,9 +1,9 @@
-pub mod Additions
-pub mod Frames
-pub mod Laying
-pub mod Limits
-pub mod Lines
-pub mod Methods
-pub mod Moved
-pub mod Tables
+pub mod PoolAdditions
+pub mod MovedFrames
+pub mod CodePlacement
+pub mod MethodLimits
+pub mod AssemblyLines
+pub mod MovedMethods
+pub mod MethodExpansion
+pub mod PlaceTables
 pub mod ProofNames

@@ -4,11 +4,11 @@ use Rattle.std.specs.Prelude.{ℕ, ◌-◌, List, replicate, ℤ, ◌+ℤ◌, �
 use Rattle.jparts.specs.declared.jmaps.types.MapType.{MapType}
 use Rattle.jparts.specs.declared.jmaps.types.MapType.TheVariants.{Long, Top}
 use Rattle.jparts.specs.declared.jcode.op.Case.{Case}
-use Rattle.jmove.specs.Frames.{widths, items_of}
+use Rattle.jmove.specs.MovedFrames.{widths, items_of}
 use Rattle.jmove.specs.declared.method.MethodIn.{MethodIn}
-use Rattle.jmove.specs.Moved.{context_local}
+use Rattle.jmove.specs.MethodExpansion.{context_local}
 
--- ---- of Frames
+-- ---- of MovedFrames
 
 -- how many locals a type takes
 abbrev pub width : MapType → ℕ
@@ -18,7 +18,7 @@ width = elim [ Long ↦ 2 | _ ↦ 1 ]
 abbrev pub unsaid : ℕ → List MapType → List MapType
 unsaid local types = replicate (local - widths types) Top
 
--- ---- of Lines
+-- ---- of AssemblyLines
 
 abbrev pub case_with : (ℤ → ℤ) → Case → Case
 case_with f c = record { key = c.key; branch = f c.branch }
@@ -27,7 +27,7 @@ case_with f c = record { key = c.key; branch = f c.branch }
 abbrev pub distance : (ℕ → ℕ) → ℕ → ℕ → ℤ → ℤ
 distance to from at by = pos (to (unsigned_abs (pos from +ℤ by))) -ℤ pos at
 
--- ---- of Moved
+-- ---- of MethodExpansion
 
 abbrev pub too_many : MethodIn → Bool
 too_many m = m.max_locals == 65535 || nat_lt 16777216 (items_of (context_local m) m.frames)

@@ -1,11 +1,11 @@
 ghost use Rattle.std.specs.Prelude.{◌≡◌, ◌≤◌, List, IfOk, IfSome, IsTrue, Some, length, option_map, slice_get};
 ghost use Rattle.jparts.specs.declared.jpool.entry.Entry.TheVariants as entries;
-ghost use Rattle.jparts.specs.jpool.Adding.{has_spelling, names_text};
+ghost use Rattle.jparts.specs.jpool.EntryLayouts.{has_spelling, names_text};
 ghost use Rattle.jparts.specs.declared.jpool.entry.Entry.{Entry};
-ghost use Rattle.jparts.specs.jpool.Pools.{is_utf8, name_and_type_at};
-ghost use Rattle.jmove.specs.Additions;
-ghost use Rattle.jmove.specs.Additions.{Adds, changed_text, with_body, with_call, with_changed, with_class, with_entry, with_expansions, with_frames, with_member};
-ghost use Rattle.jmove.specs.Additions.{with_number, with_security, with_text};
+ghost use Rattle.jparts.specs.jpool.ConstantPools.{is_utf8, name_and_type_at};
+ghost use Rattle.jmove.specs.PoolAdditions;
+ghost use Rattle.jmove.specs.PoolAdditions.{Adds, changed_text, with_body, with_call, with_changed, with_class, with_entry, with_expansions, with_frames, with_member};
+ghost use Rattle.jmove.specs.PoolAdditions.{with_number, with_security, with_text};
 
 use crate::descriptor::moved_descriptor;
 use crate::method::{Expand, MoveError};
@@ -74,7 +74,7 @@ fn put_member(
 }
 
 fn security_name(method: Security) -> &'static [u8]
-    ensures name { result.now ≡ Additions.security_name method }
+    ensures name { result.now ≡ PoolAdditions.security_name method }
     ensures short { length result.now ≤ 0xffff }
 {
     match method {
@@ -88,7 +88,7 @@ fn security_name(method: Security) -> &'static [u8]
 }
 
 fn security_type(method: Security) -> &'static [u8]
-    ensures name { result.now ≡ Additions.security_type method }
+    ensures name { result.now ≡ PoolAdditions.security_type method }
     ensures short { length result.now ≤ 0xffff }
 {
     match method {
@@ -115,7 +115,7 @@ fn put_security(alloc: Global, pool: &mut Adder, method: Security) -> Result<u16
 }
 
 fn reference_by(pool: &Pool, interface: bool, class: u16, both: u16) -> Option<Reference>
-    ensures { result ≡ Additions.reference_by interface class (name_and_type_at pool.now both) }
+    ensures { result ≡ PoolAdditions.reference_by interface class (name_and_type_at pool.now both) }
 {
     let (name, descriptor) = pool.name_and_type(both)?;
     Some(Reference {
@@ -127,9 +127,9 @@ fn reference_by(pool: &Pool, interface: bool, class: u16, both: u16) -> Option<R
 }
 
 /// The reference of a method at an index.
-#[tactic(auto, unfolding(crate::specs::Additions::reference_at))]
+#[tactic(auto, unfolding(crate::specs::PoolAdditions::reference_at))]
 fn reference_at(pool: &Pool, i: u16) -> Option<Reference>
-    ensures { result ≡ Additions.reference_at pool.now i }
+    ensures { result ≡ PoolAdditions.reference_at pool.now i }
 {
     match pool.entry(i) {
         Some(Entry::Method(class, both)) => reference_by(pool, false, *class, *both),
@@ -139,7 +139,7 @@ fn reference_at(pool: &Pool, i: u16) -> Option<Reference>
 }
 
 /// The new descriptor of a reference.
-#[tactic(auto, unfolding(crate::specs::Additions::changed_text))]
+#[tactic(auto, unfolding(crate::specs::PoolAdditions::changed_text))]
 fn changed_text(
     alloc: Global,
     pool: &Pool,
@@ -161,7 +161,7 @@ fn changed_text(
 }
 
 fn reference_entry(reference: Reference, both: u16) -> Entry
-    ensures entry { result ≡ Additions.reference_entry reference both }
+    ensures entry { result ≡ PoolAdditions.reference_entry reference both }
     ensures spelled { IsTrue (has_spelling result) }
     ensures named { (pool : List Entry) → IsTrue (names_text pool result) }
 {
@@ -215,7 +215,7 @@ fn put_number(alloc: Global, pool: &mut Adder, kind: Expand) -> Result<u16, Move
 }
 
 fn numbered(kind: Expand, i: u16) -> Expand
-    ensures { result ≡ Additions.numbered kind i }
+    ensures { result ≡ PoolAdditions.numbered kind i }
 {
     match kind {
         Expand::Same => Expand::Same,

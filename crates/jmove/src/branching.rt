@@ -1,7 +1,7 @@
 ghost use Rattle.std.specs.Prelude.{◌≡◌, ◌≤◌, IfOk, map};
-ghost use Rattle.jmove.specs.Lines.{lookup_with, switch_with, table_with, with_branches};
+ghost use Rattle.jmove.specs.AssemblyLines.{lookup_with, switch_with, table_with, with_branches};
 ghost use Rattle.jmove.specs.ProofNames.{case_with};
-ghost use Rattle.jmove.specs.Tables.{distances};
+ghost use Rattle.jmove.specs.PlaceTables.{distances};
 
 use crate::places::Places;
 use jground::jbase::Seq;
@@ -21,7 +21,7 @@ pub struct Distances<'a> {
 
 impl<'a> Model for Distances<'a> {
     ghost use Rattle.std.specs.Prelude.{◌≤◌};
-    ghost use Rattle.jmove.specs.Tables.{Moving};
+    ghost use Rattle.jmove.specs.PlaceTables.{Moving};
 
     ghost Value = { Moving };
 
@@ -126,7 +126,7 @@ fn boxed_led(
 }
 
 /// An instruction with other distances of its branches.
-pub fn led(alloc: Global, op: &Op, by: &Distances<'_>) -> Result<Op, AllocError>
+pub fn retarget_branches(alloc: Global, op: &Op, by: &Distances<'_>) -> Result<Op, AllocError>
     ensures { IfOk result (λ led. led ≡ with_branches (distances by.now) op.now) }
 {
     match op {

@@ -1,7 +1,7 @@
 ghost use Rattle.std.specs.Prelude.{◌≡◌, ◌≤◌, ◌<◌, ◌++◌, ◌^◌, IfOk, IsTrue, drop, length, option_map, take};
 ghost use Rattle.std.specs.List.{flat_map};
 ghost use Rattle.jparts.specs.jpool.Descriptors.{is_type, type_text};
-ghost use Rattle.jmove.specs.Additions;
+ghost use Rattle.jmove.specs.PoolAdditions;
 
 use jparts::jpool::{DescError, Descriptor, FieldType, read_descriptor};
 use std::alloc::{AllocError, Global};
@@ -43,9 +43,9 @@ fn inserted(alloc: Global, text: &[u8], at: usize, more: &[u8]) -> Result<Vec<u8
 }
 
 /// A method's descriptor with the context as one more parameter, the last. None exactly where the text is no method's descriptor.
-#[tactic(auto, unfolding(crate::specs::Additions::moved_descriptor))]
+#[tactic(auto, unfolding(crate::specs::PoolAdditions::moved_descriptor))]
 pub fn moved_descriptor(alloc: Global, text: &[u8]) -> Result<Option<Vec<u8>>, AllocError>
-    ensures { IfOk result (λ moved. option_map (λ v. v.items) moved ≡ Additions.moved_descriptor text.now) }
+    ensures { IfOk result (λ moved. option_map (λ v. v.items) moved ≡ PoolAdditions.moved_descriptor text.now) }
 {
     // What the proof needs: a slice has no more items than a usize counts.
     let _size = text.len();

@@ -1,12 +1,12 @@
 ghost use Rattle.std.specs.Prelude.{◌≡◌, ◌+◌, ◌≤◌, ◌<◌, ◌++◌, ◌∷◌, [], IfOk, OnOk, length, map};
 ghost use Rattle.jparts.specs.jcode.Instructions.{placed_at, size};
-ghost use Rattle.jmove.specs.Lines;
-ghost use Rattle.jmove.specs.Lines.{Do, placed, with_branches};
-ghost use Rattle.jmove.specs.Moved;
-ghost use Rattle.jmove.specs.Moved.{expansion, expansions};
-ghost use Rattle.jmove.specs.Tables.{distances, in_table};
+ghost use Rattle.jmove.specs.AssemblyLines;
+ghost use Rattle.jmove.specs.AssemblyLines.{Do, placed, with_branches};
+ghost use Rattle.jmove.specs.MethodExpansion;
+ghost use Rattle.jmove.specs.MethodExpansion.{expansion, expansions};
+ghost use Rattle.jmove.specs.PlaceTables.{distances, in_table};
 
-use crate::branching::{Distances, led};
+use crate::branching::{Distances, retarget_branches};
 use crate::method::{Expand, Setting};
 use crate::places::Places;
 use crate::sizing::{move_size, reach};
@@ -15,7 +15,7 @@ use std::alloc::{AllocError, Global};
 
 /// aload or astore.
 fn move_ref(access: Access, local: u16) -> Op
-    ensures { result ≡ Moved.move_ref access local }
+    ensures { result ≡ MethodExpansion.move_ref access local }
 {
     if local < 256 {
         return Op::RefLocal(LocalOp::At(access, local as u8));
@@ -25,20 +25,20 @@ fn move_ref(access: Access, local: u16) -> Op
 
 fn push_int(n: u16) -> Op
     requires { n < 0x8000 }
-    ensures { result ≡ Moved.push_int n }
+    ensures { result ≡ MethodExpansion.push_int n }
 {
     Op::IntConst(IntConst::Short(n as i16))
 }
 
 fn call_static(reference: u16) -> Op
-    ensures { result ≡ Moved.call_static reference }
+    ensures { result ≡ MethodExpansion.call_static reference }
 {
     Op::Call(CallOp::Static, reference)
 }
 
 /// The same call by another reference, with one more argument.
 fn calling(alloc: Global, reference: u16, op: &Op) -> Result<Op, AllocError>
-    ensures { IfOk result (λ call. call ≡ Moved.calling reference op.now) }
+    ensures { IfOk result (λ call. call ≡ MethodExpansion.calling reference op.now) }
 {
     match op {
         Op::Call(call, _) => Ok(Op::Call(*call, reference)),
@@ -65,14 +65,14 @@ fn put_led(
 ) -> Result<(), AllocError>
     ensures { OnOk result (out.new.items ≡ out.old.items ++ placed_at at (with_branches (distances by.now) op.now) ∷ []) }
 {
-    let led = led(alloc, op, by)?;
+    let led = retarget_branches(alloc, op, by)?;
     put(out, at, led)
 }
 
 /// What a moved body begins with.
 pub fn prologue(alloc: Global, slots: u16, s: Setting, enter: u16) -> Result<Vec<Op>, AllocError>
     requires { s.domain < 0x8000 }
-    ensures { IfOk result (λ ops. ops.items ≡ Moved.prologue slots s enter) }
+    ensures { IfOk result (λ ops. ops.items ≡ MethodExpansion.prologue slots s enter) }
 {
     Ok(vec![in alloc;
         move_ref(Access::Load, slots),
@@ -89,7 +89,7 @@ pub fn put_begin(
     places: &Places,
     out: &mut Vec<Placed>,
 ) -> Result<(), AllocError>
-    requires { Lines.reach 0 begin.now ≤ 0x7fff }
+    requires { AssemblyLines.reach 0 begin.now ≤ 0x7fff }
     ensures { OnOk result (out.new.items ≡ out.old.items ++ placed (in_table places.now) 0 (map (Do 0) begin.now)) }
 {
     let mut at = 0;
@@ -110,7 +110,7 @@ fn put_in_domain(
     requires domain { domain < 0x8000 }
     requires near { at ≤ 0x7fff }
     ensures { OnOk result (out.new.items ≡
-        out.old.items ++ placed_at at (Moved.push_int domain) ∷ placed_at (at + size at (Moved.push_int domain)) (Moved.call_static reference) ∷ []) }
+        out.old.items ++ placed_at at (MethodExpansion.push_int domain) ∷ placed_at (at + size at (MethodExpansion.push_int domain)) (MethodExpansion.call_static reference) ∷ []) }
 {
     put(out, at, push_int(domain))?;
     put(out, at + 3, call_static(reference))
@@ -128,7 +128,7 @@ fn put_expansion(
     out: &mut Vec<Placed>,
 ) -> Result<(), AllocError>
     requires domain { s.domain < 0x8000 }
-    requires near { Lines.reach at (expansion s kind one.now.op) ≤ 0x7fff }
+    requires near { AssemblyLines.reach at (expansion s kind one.now.op) ≤ 0x7fff }
     ensures { OnOk result (out.new.items ≡ out.old.items ++ placed (in_table places.now) at (map (Do one.now.at) (expansion s kind one.now.op))) }
 {
     let load = move_size(u32::from(s.local));
@@ -172,7 +172,7 @@ pub fn put_expansions(
 ) -> Result<(), AllocError>
     requires domain { s.domain < 0x8000 }
     requires same { length kinds.now ≡ length ops.now }
-    requires near { Lines.end_of begin (expansions s kinds.now ops.now) ≤ 0x7fff }
+    requires near { AssemblyLines.end_of begin (expansions s kinds.now ops.now) ≤ 0x7fff }
     ensures { OnOk result (out.new.items ≡ out.old.items ++ placed (in_table places.now) begin (expansions s kinds.now ops.now)) }
 {
     let mut at = begin;

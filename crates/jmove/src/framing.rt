@@ -1,9 +1,9 @@
 ghost use Rattle.std.specs.Prelude.{◌≡◌, ◌≤◌, ◌++◌, ◌∷◌, [], All, IfOk, OnOk, map, replicate, nat_lt};
 ghost use Rattle.jparts.specs.declared.jmaps.types.MapType.TheVariants.{Top};
-ghost use Rattle.jmove.specs.Frames;
+ghost use Rattle.jmove.specs.MovedFrames;
 ghost use Rattle.jmove.specs.ProofNames;
-ghost use Rattle.jmove.specs.Frames.{moved_frame, moved_type, items_of};
-ghost use Rattle.jmove.specs.Tables.{in_table};
+ghost use Rattle.jmove.specs.MovedFrames.{moved_frame, moved_type, items_of};
+ghost use Rattle.jmove.specs.PlaceTables.{in_table};
 
 use crate::places::Places;
 use jground::jbase::Seq;
@@ -21,8 +21,8 @@ fn width(one: MapType) -> usize
 
 /// How many locals types take.
 fn widths(types: &[MapType]) -> usize
-    requires { Frames.widths types.now ≤ 0xffff }
-    ensures { result ≡ Frames.widths types.now }
+    requires { MovedFrames.widths types.now ≤ 0xffff }
+    ensures { result ≡ MovedFrames.widths types.now }
 {
     let mut count = 0;
     for one in types {
@@ -33,9 +33,9 @@ fn widths(types: &[MapType]) -> usize
 
 /// How many locals and stack items are written in a frame.
 fn items(frame: &FullFrame, local: usize) -> usize
-    requires few { Frames.widths frame.now.locals ≤ local }
+    requires few { MovedFrames.widths frame.now.locals ≤ local }
     requires near { local ≤ 0xffff }
-    ensures { result ≡ Frames.items local frame.now }
+    ensures { result ≡ MovedFrames.items local frame.now }
 {
     let locals = frame.locals.as_slice();
     locals.len() + (local - widths(locals)) + 1 + frame.stack.as_slice().len()
@@ -43,7 +43,7 @@ fn items(frame: &FullFrame, local: usize) -> usize
 
 /// Whether more than 16,777,216 locals and stack items would be written in frames.
 pub fn too_many(frames: &[FullFrame], local: usize) -> bool
-    requires few { All (λ f. Frames.widths f.locals ≤ local) frames.now }
+    requires few { All (λ f. MovedFrames.widths f.locals ≤ local) frames.now }
     requires near { local ≤ 0xffff }
     ensures { result ≡ nat_lt 16777216 (items_of local frames.now) }
 {
@@ -104,7 +104,7 @@ fn frame_moved(
     local: usize,
     context: u16,
 ) -> Result<FullFrame, AllocError>
-    requires few { Frames.widths frame.now.locals ≤ local }
+    requires few { MovedFrames.widths frame.now.locals ≤ local }
     requires near { local ≤ 0xffff }
     ensures { IfOk result (λ moved. moved ≡ moved_frame (in_table places.now) local context frame.now) }
 {
@@ -128,7 +128,7 @@ pub fn frames_moved(
     local: usize,
     context: u16,
 ) -> Result<Seq<FullFrame>, AllocError>
-    requires few { All (λ f. Frames.widths f.locals ≤ local) frames.now }
+    requires few { All (λ f. MovedFrames.widths f.locals ≤ local) frames.now }
     requires near { local ≤ 0xffff }
     ensures { IfOk result (λ moved. moved ≡ map (moved_frame (in_table places.now) local context) frames.now) }
 {

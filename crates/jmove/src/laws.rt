@@ -1,5 +1,5 @@
-ghost use Rattle.jmove.specs.Laying.{CodeLaid, EndAbove, EndBehind, PlaceBehind, PlaceWithin};
-ghost use Rattle.jmove.specs.Limits.{Renumbered, SameCanMove, SameLimit, Short};
+ghost use Rattle.jmove.specs.CodePlacement.{CodeLaid, EndAbove, EndBehind, PlaceBehind, PlaceWithin};
+ghost use Rattle.jmove.specs.MethodLimits.{Renumbered, SameCanMove, SameLimit, Short};
 
 /// The laws of lines and places: what lines say of the places behind their instructions, and where the instructions of code stand.
 pub fn line_laws()

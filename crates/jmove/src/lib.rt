@@ -1,14 +1,14 @@
 //! One moved method: it takes its caller's security context as one more parameter, enters its own domain, and hands the context on. The
 //! rewriter (`jrewrite`) stands on it.
 //!
-//! - `Lines`: an assembler's lines, labels of old places and instructions whose branches count from old places; a place is the sum of
+//! - `AssemblyLines`: an assembler's lines, labels of old places and instructions whose branches count from old places; a place is the sum of
 //!   the sizes before it.
-//! - `Moved`: the prologue, the expansion of each instruction, the limits, handlers.
-//! - `Frames`: full frames with the context in its local.
-//! - `Additions`: what moved code names, and where it stands in a pool.
-//! - `Methods`: the whole.
-//! - `Tables`: the table of new places that the code looks up.
-//! - `Limits`, `Laying`: the laws.
+//! - `MethodExpansion`: the prologue, the expansion of each instruction, the limits, handlers.
+//! - `MovedFrames`: full frames with the context in its local.
+//! - `PoolAdditions`: what moved code names, and where it stands in a pool.
+//! - `MovedMethods`: the whole.
+//! - `PlaceTables`: the table of new places that the code looks up.
+//! - `MethodLimits`, `CodePlacement`: the laws.
 //!
 //! Proved: `limit_of` is the first limit that a method breaks, in the order slots, locals, stack, length; `move_method` answers exactly
 //! the moved method and the pool that it needs, each error exactly by its cause, before anything is put where it is a limit, and
@@ -18,8 +18,6 @@
 //! instructions, and that code stands from place 0 to its length.
 //!
 //! `ProofNames` are names by which proofs and contracts of inner functions call what the definitions say in place.
-//!
-//! Rooms of moving may name it, and tests.
 #![tactic(auto)]
 
 mod adding;

@@ -1,10 +1,10 @@
 ghost use Rattle.std.specs.Prelude.{◌≡◌, ◌≤◌, ◌<◌, ℕ, IfOk, IsTrue, None, length, map};
 ghost use Rattle.jparts.specs.jcode.Instructions.{code};
-ghost use Rattle.jmove.specs.Lines;
-ghost use Rattle.jmove.specs.Lines.{end_of, place_of, placed};
-ghost use Rattle.jmove.specs.Moved;
-ghost use Rattle.jmove.specs.Moved.{CanMove, expansions, lines, setting};
-ghost use Rattle.jmove.specs.Tables.{in_table};
+ghost use Rattle.jmove.specs.AssemblyLines;
+ghost use Rattle.jmove.specs.AssemblyLines.{end_of, place_of, placed};
+ghost use Rattle.jmove.specs.MethodExpansion;
+ghost use Rattle.jmove.specs.MethodExpansion.{CanMove, expansions, lines, setting};
+ghost use Rattle.jmove.specs.PlaceTables.{in_table};
 
 use crate::emission::{prologue, put_begin, put_expansions};
 use crate::framing::{frames_moved, too_many};
@@ -18,14 +18,14 @@ use std::alloc::{AllocError, Global};
 /// The local that holds the context.
 fn context_local(m: &MethodIn) -> u32
     requires { m.now.slots ≤ 255 }
-    ensures { result ≡ Moved.context_local m.now }
+    ensures { result ≡ MethodExpansion.context_local m.now }
 {
     m.max_locals.max(m.slots + 1)
 }
 
 /// The length of what a moved body begins with, whatever the domain and the reference.
 fn begin_of(slots: u32, local: u32) -> u32
-    ensures { (domain enter : ℕ) → Lines.reach 0 (Moved.prologue slots (record { local = local; domain = domain }) enter) ≡ result }
+    ensures { (domain enter : ℕ) → AssemblyLines.reach 0 (MethodExpansion.prologue slots (record { local = local; domain = domain }) enter) ≡ result }
 {
     move_size(slots) + 6 + move_size(local)
 }
@@ -45,8 +45,8 @@ fn code_length(ops: &[Placed]) -> u32
 /// The number of bytes of moved code.
 fn moved_length(m: &MethodIn, local: u16, kinds: &[Expand]) -> u32
     requires can { CanMove m.now kinds.now }
-    requires local { local ≡ Moved.context_local m.now }
-    ensures { result ≡ Moved.moved_length m.now kinds.now }
+    requires local { local ≡ MethodExpansion.context_local m.now }
+    ensures { result ≡ MethodExpansion.moved_length m.now kinds.now }
 {
     let s = Setting { local, domain: 0 };
     let begin = begin_of(m.slots, u32::from(local));
@@ -54,10 +54,10 @@ fn moved_length(m: &MethodIn, local: u16, kinds: &[Expand]) -> u32
 }
 
 /// The first limit that a method would break if it were moved, in this order: `Slots`, `Locals`, `Stack`, `TooLong`.
-#[tactic(auto, unfolding(crate::specs::Moved::limit_of))]
+#[tactic(auto, unfolding(crate::specs::MethodExpansion::limit_of))]
 pub fn limit_of(m: &MethodIn, kinds: &[Expand]) -> Option<MoveError>
     requires { CanMove m.now kinds.now }
-    ensures { result ≡ Moved.limit_of m.now kinds.now }
+    ensures { result ≡ MethodExpansion.limit_of m.now kinds.now }
 {
     if m.slots == 255 {
         return Some(MoveError::Slots);
@@ -80,7 +80,7 @@ pub fn limit_of(m: &MethodIn, kinds: &[Expand]) -> Option<MoveError>
 }
 
 fn handler_moved(handler: Handler, places: &Places) -> Handler
-    ensures { result ≡ Moved.moved_handler (in_table places.now) handler }
+    ensures { result ≡ MethodExpansion.moved_handler (in_table places.now) handler }
 {
     Handler {
         start: u32::from(places.at(handler.start as usize)),
@@ -95,7 +95,7 @@ fn handlers_moved(
     handlers: &[Handler],
     places: &Places,
 ) -> Result<Vec<Handler>, AllocError>
-    ensures { IfOk result (λ moved. moved.items ≡ map (Moved.moved_handler (in_table places.now)) handlers.now) }
+    ensures { IfOk result (λ moved. moved.items ≡ map (MethodExpansion.moved_handler (in_table places.now)) handlers.now) }
 {
     handlers
         .iter()
@@ -114,7 +114,7 @@ fn places_in(
     requires each { length kinds.now ≡ length ops.now }
     requires is_code { IsTrue (code.fits ops.now) }
     requires short { length (code.spell ops.now) ≤ 0xffff }
-    requires near { Lines.end_of begin (expansions s kinds.now ops.now) ≤ 0x7fff }
+    requires near { AssemblyLines.end_of begin (expansions s kinds.now ops.now) ≤ 0x7fff }
     ensures { IfOk result (λ places. in_table places ≡ λ old. place_of old begin (expansions s kinds.now ops.now)) }
 {
     let end = end_of(s, kinds, ops, begin);
@@ -132,9 +132,9 @@ fn code_in(
     places: &Places,
 ) -> Result<Vec<Placed>, AllocError>
     requires domain { s.domain < 0x8000 }
-    requires at { at ≡ Lines.reach 0 begin.now }
+    requires at { at ≡ AssemblyLines.reach 0 begin.now }
     requires each { length kinds.now ≡ length ops.now }
-    requires near { Lines.end_of at (expansions s kinds.now ops.now) ≤ 0x7fff }
+    requires near { AssemblyLines.end_of at (expansions s kinds.now ops.now) ≤ 0x7fff }
     ensures { IfOk result (λ code. code.items ≡ placed (in_table places.now) 0 (lines begin.now s kinds.now ops.now)) }
 {
     let mut out = Vec::new(alloc);
@@ -155,8 +155,8 @@ pub fn moved_by(
 ) -> Result<MethodOut, AllocError>
     requires can { CanMove m.now kinds.now }
     requires domain { domain < 0x8000 }
-    requires limits { Moved.limit_of m.now kinds.now ≡ None }
-    ensures { IfOk result (λ moved. moved ≡ Moved.moved_by m.now domain enter context kinds.now) }
+    requires limits { MethodExpansion.limit_of m.now kinds.now ≡ None }
+    ensures { IfOk result (λ moved. moved ≡ MethodExpansion.moved_by m.now domain enter context kinds.now) }
 {
     let local = context_local(m);
     let s = Setting {

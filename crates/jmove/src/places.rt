@@ -1,7 +1,7 @@
 ghost use Rattle.std.specs.Prelude.{◌≡◌, ◌+◌, ◌<◌, ◌≤◌, ℕ, IfOk, length, slice_set};
-ghost use Rattle.jmove.specs.Lines.{Laid, end_of, place_of};
-ghost use Rattle.jmove.specs.Moved.{expansions};
-ghost use Rattle.jmove.specs.Tables.{in_table};
+ghost use Rattle.jmove.specs.AssemblyLines.{Laid, end_of, place_of};
+ghost use Rattle.jmove.specs.MethodExpansion.{expansions};
+ghost use Rattle.jmove.specs.PlaceTables.{in_table};
 
 use crate::method::{Expand, Setting};
 use crate::sizing::reach;
@@ -20,7 +20,7 @@ pub struct Places {
 
 impl Model for Places {
     ghost use Rattle.std.specs.Prelude.{ℕ, ◌≤◌, slice_index_or};
-    ghost use Rattle.jmove.specs.Tables.{Table};
+    ghost use Rattle.jmove.specs.PlaceTables.{Table};
 
     ghost Value = { Table };
 

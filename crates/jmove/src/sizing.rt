@@ -1,8 +1,8 @@
 ghost use Rattle.std.specs.Prelude.{◌≡◌, ◌+◌, ◌≤◌, ℕ, length};
 ghost use Rattle.jparts.specs.declared.jcode.names.Access.{Access};
 ghost use Rattle.jparts.specs.jcode.Instructions.{size};
-ghost use Rattle.jmove.specs.Lines;
-ghost use Rattle.jmove.specs.Moved.{expansion, expansions, move_ref};
+ghost use Rattle.jmove.specs.AssemblyLines;
+ghost use Rattle.jmove.specs.MethodExpansion.{expansion, expansions, move_ref};
 
 use crate::method::{Expand, Setting};
 use jparts::jcode::{Op, Placed, size_at};
@@ -19,8 +19,8 @@ pub fn move_size(local: u32) -> u32
 /// The place that the expansion of an instruction reaches.
 #[tactic(auto, using(crate::proofs::Sizes::sizes))]
 pub fn reach(s: Setting, kind: Expand, op: &Op, at: u32) -> u32
-    requires { Lines.reach at (expansion s kind op.now) ≤ 0xffff_ffff }
-    ensures { result ≡ Lines.reach at (expansion s kind op.now) }
+    requires { AssemblyLines.reach at (expansion s kind op.now) ≤ 0xffff_ffff }
+    ensures { result ≡ AssemblyLines.reach at (expansion s kind op.now) }
 {
     let load = move_size(u32::from(s.local));
     match kind {
@@ -38,8 +38,8 @@ pub fn reach(s: Setting, kind: Expand, op: &Op, at: u32) -> u32
 /// The place behind the expansions of code that begin at a place.
 pub fn end_of(s: Setting, kinds: &[Expand], ops: &[Placed], at: u32) -> u32
     requires same { length kinds.now ≡ length ops.now }
-    requires fits { Lines.end_of at (expansions s kinds.now ops.now) ≤ 0xffff_ffff }
-    ensures { result ≡ Lines.end_of at (expansions s kinds.now ops.now) }
+    requires fits { AssemblyLines.end_of at (expansions s kinds.now ops.now) ≤ 0xffff_ffff }
+    ensures { result ≡ AssemblyLines.end_of at (expansions s kinds.now ops.now) }
 {
     let mut at = at;
     for (i, one) in ops.iter().enumerate() {

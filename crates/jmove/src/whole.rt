@@ -1,9 +1,9 @@
 ghost use Rattle.std.specs.Prelude.{◌≡◌, ◌<◌, IsSome, OnErr};
-ghost use Rattle.jmove.specs.Additions.{IsFront, with_body};
-ghost use Rattle.jmove.specs.Methods;
-ghost use Rattle.jmove.specs.Methods.{Answers};
-ghost use Rattle.jmove.specs.Moved;
-ghost use Rattle.jmove.specs.Moved.{CanMove};
+ghost use Rattle.jmove.specs.PoolAdditions.{IsFront, with_body};
+ghost use Rattle.jmove.specs.MovedMethods;
+ghost use Rattle.jmove.specs.MovedMethods.{Answers};
+ghost use Rattle.jmove.specs.MethodExpansion;
+ghost use Rattle.jmove.specs.MethodExpansion.{CanMove};
 
 use crate::adding::put_body;
 use crate::method::{Expand, MethodIn, MethodOut, MoveError};
@@ -28,13 +28,13 @@ pub fn move_method(
     requires can { CanMove m.now kinds.now }
     requires domain { domain < 4096 }
     // The moved method, and the pool that it needs; each error exactly where the definition has it, want of memory aside.
-    ensures value { Answers result pool.new (Methods.move_method m.now kinds.now domain pool.old) }
+    ensures value { Answers result pool.new (MovedMethods.move_method m.now kinds.now domain pool.old) }
     // After an error the pool holds its old entries,
     ensures kept { OnErr result (IsFront pool.old pool.new) }
     // and behind them a front of what was to be put.
     ensures front { OnErr result (IsFront pool.new (with_body kinds.now m.now.frames pool.old).1) }
     // A limit is found before anything is put.
-    ensures limit { IsSome (Moved.limit_of m.now kinds.now) → pool.new ≡ pool.old }
+    ensures limit { IsSome (MethodExpansion.limit_of m.now kinds.now) → pool.new ≡ pool.old }
 {
     if let Some(limit) = limit_of(m, kinds) {
         return Err(limit);

@@ -2,7 +2,7 @@
 use Rattle.std.proofs.Common.{◌≡◌, ℕ, List, [], ◌∷◌, ◌++◌, Option, Some, None, refl, ap}
 use Rattle.jparts.specs.declared.jmaps.types.FullFrame.{FullFrame}
 use Rattle.jparts.specs.declared.jmaps.types.RawFrame.{RawFrame}
-use Rattle.jparts.specs.jmaps.Full.{full_form, full_forms}
+use Rattle.jparts.specs.jmaps.ExpandedFrames.{full_form, full_forms}
 
 -- the place of the last frame
 abbrev pub last_place : Option ℕ → List FullFrame → Option ℕ

@@ -12,18 +12,18 @@ use Rattle.jclass.specs.declared.class.CodeBody.{CodeBody}
 use Rattle.jclass.specs.declared.class.MemberInfo.{MemberInfo}
 use Rattle.jmove.specs.declared.method.Expand.{Expand}
 use Rattle.jmove.specs.declared.method.MethodIn.{MethodIn}
-use Rattle.jmove.specs.Additions.{Adding, giving, with_body, with_class, with_text, ◌>>◌}
-use Rattle.jmove.specs.Moved.{moved_by}
-use Rattle.jmove.proofs.Growing.{Grows, body_grows, class_grows, entry_grows, giving_grows, then_grows}
-use Rattle.jprogram.specs.Classes.{Program}
-use Rattle.jprogram.specs.Parts.{is_static, this_name}
-use Rattle.jmoveclass.specs.Beginning.{class_name, is_reference, item, params_of, this_item, with_beginning, with_item, with_this}
-use Rattle.jprogram.specs.Members.{is_init}
-use Rattle.jmoveclass.specs.Calls.{expands}
-use Rattle.jmoveclass.specs.Methods.{kept_alone, method_in, moved_code, moved_member, new_desc, with_attribute, with_code, with_first, with_method, with_moved}
-use Rattle.jmoveclass.specs.Puts.{with_each}
-use Rattle.jmoveclass.proofs.Turning.{each_grows}
-use Rattle.jclass.specs.Codes.{frames_in}
+use Rattle.jmove.specs.PoolAdditions.{Adding, giving, with_body, with_class, with_text, ◌>>◌}
+use Rattle.jmove.specs.MethodExpansion.{moved_by}
+use Rattle.jmove.proofs.PoolGrowth.{Grows, body_grows, class_grows, entry_grows, giving_grows, then_grows}
+use Rattle.jresolution.specs.jprogram.ProgramClasses.{Program}
+use Rattle.jresolution.specs.jprogram.ClassFileParts.{is_static, this_name}
+use Rattle.jmoveclass.specs.EntryLocals.{class_name, is_reference, item, params_of, this_item, with_beginning, with_item, with_this}
+use Rattle.jresolution.specs.jprogram.MemberResolution.{is_init}
+use Rattle.jmoveclass.specs.CallExpansion.{expands}
+use Rattle.jmoveclass.specs.MovedMembers.{kept_alone, method_in, moved_code, moved_member, new_desc, with_attribute, with_code, with_first, with_method, with_moved}
+use Rattle.jmoveclass.specs.PoolPuts.{with_each}
+use Rattle.jmoveclass.proofs.ItemAdditions.{each_grows}
+use Rattle.jclass.specs.CodeFormat.{frames_in}
 
 if_grows : {A : Type 0} (b : Bool) (f g : Adding A) → Grows f → Grows g → Grows (if b then f else g)
 if_grows true f g F G = F

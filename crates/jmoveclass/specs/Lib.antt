@@ -1,9 +1,9 @@
-pub mod Beginning
-pub mod Calls
-pub mod Kept
-pub mod Limits
-pub mod Methods
-pub mod Moved
-pub mod Moving
-pub mod Puts
+pub mod EntryLocals
+pub mod CallExpansion
+pub mod KeptAttributes
+pub mod ClassLimits
+pub mod MovedMembers
+pub mod MovedClasses
+pub mod MovableClasses
+pub mod PoolPuts
 pub mod ProofNames

@@ -1,9 +1,9 @@
 ghost use Rattle.std.specs.Prelude.{◌≡◌, ◌≤◌, ◌∷◌, [], All, IfOk, length};
 ghost use Rattle.jparts.specs.jpool.Descriptors;
-ghost use Rattle.jprogram.specs.Parts;
-ghost use Rattle.jmoveclass.specs.Beginning;
-ghost use Rattle.jmoveclass.specs.Beginning.{with_beginning, with_item, with_this};
-ghost use Rattle.jmoveclass.specs.Puts.{Puts, with_each};
+ghost use Rattle.jresolution.specs.jprogram.ClassFileParts;
+ghost use Rattle.jmoveclass.specs.EntryLocals;
+ghost use Rattle.jmoveclass.specs.EntryLocals.{with_beginning, with_item, with_this};
+ghost use Rattle.jmoveclass.specs.PoolPuts.{Puts, with_each};
 
 use bitflags::Flags;
 use jadder::Adder;
@@ -12,7 +12,7 @@ use jground::jbase::Seq;
 use jmove::{MoveError, put_class};
 use jparts::jmaps::MapType;
 use jparts::jpool::{DescError, Descriptor, FieldType, read_descriptor, slots_of};
-use jprogram::{is_init, member_desc, this_name};
+use jresolution::jprogram::{is_init, member_desc, this_name};
 use std::alloc::{AllocError, Global};
 
 // ---- what a method is handed
@@ -23,7 +23,7 @@ pub fn params_of(
     class: &ClassParts,
     method: &MemberInfo,
 ) -> Result<Seq<FieldType>, AllocError>
-    ensures { IfOk result (λ params. params ≡ Beginning.params_of class.now method.now) }
+    ensures { IfOk result (λ params. params ≡ EntryLocals.params_of class.now method.now) }
 {
     match read_descriptor(alloc, member_desc(class, method)) {
         Ok(Descriptor::Method { params, ret: _ }) => Ok(params),
@@ -34,16 +34,16 @@ pub fn params_of(
 }
 
 fn is_static(method: &MemberInfo) -> bool
-    ensures { result ≡ Parts.is_static method.now.flags }
+    ensures { result ≡ ClassFileParts.is_static method.now.flags }
 {
     method.flags.contains(Access::STATIC)
 }
 
 /// The slots of a method's parameters, `this` included.
 pub fn slots(class: &ClassParts, method: &MemberInfo, params: &[FieldType]) -> u32
-    requires params { params.now ≡ Beginning.params_of class.now method.now }
-    requires few { Beginning.slots class.now method.now ≤ 255 }
-    ensures { result ≡ Beginning.slots class.now method.now }
+    requires params { params.now ≡ EntryLocals.params_of class.now method.now }
+    requires few { EntryLocals.slots class.now method.now ≤ 255 }
+    ensures { result ≡ EntryLocals.slots class.now method.now }
 {
     let count = slots_of(params) as u32;
     if is_static(method) { count } else { count + 1 }
@@ -52,13 +52,13 @@ pub fn slots(class: &ClassParts, method: &MemberInfo, params: &[FieldType]) -> u
 // ---- as items of frames
 
 fn is_reference(t: &FieldType) -> bool
-    ensures { result ≡ Beginning.is_reference t.now }
+    ensures { result ≡ EntryLocals.is_reference t.now }
 {
     0 < t.depth || t.base == b'L'
 }
 
 fn item(class: u16, t: &FieldType) -> MapType
-    ensures { result ≡ Beginning.item class t.now }
+    ensures { result ≡ EntryLocals.item class t.now }
 {
     if is_reference(t) {
         return MapType::Object(class);
@@ -70,7 +70,7 @@ fn item(class: u16, t: &FieldType) -> MapType
 }
 
 fn this_item(init: bool, class: u16) -> MapType
-    ensures { result ≡ Beginning.this_item init class }
+    ensures { result ≡ EntryLocals.this_item init class }
 {
     if init {
         MapType::UninitThis
@@ -97,7 +97,7 @@ fn type_text(alloc: Global, t: &FieldType) -> Result<Seq<u8>, AllocError>
 
 /// What a Class entry of a type names.
 fn class_name(alloc: Global, t: &FieldType) -> Result<Seq<u8>, AllocError>
-    ensures { IfOk result (λ name. name ≡ Beginning.class_name t.now) }
+    ensures { IfOk result (λ name. name ≡ EntryLocals.class_name t.now) }
 {
     if 0 < t.depth {
         return type_text(alloc, t);
@@ -108,7 +108,7 @@ fn class_name(alloc: Global, t: &FieldType) -> Result<Seq<u8>, AllocError>
 // ---- the classes that they name
 
 fn put_item(alloc: Global, pool: &mut Adder, t: &FieldType) -> Result<MapType, MoveError>
-    requires { length (Beginning.class_name t.now) ≤ 0xffff }
+    requires { length (EntryLocals.class_name t.now) ≤ 0xffff }
     ensures { Puts (λ x. x ∷ []) (with_item t.now) result pool.old pool.new }
 {
     if !is_reference(t) {
@@ -124,7 +124,7 @@ fn put_items(
     pool: &mut Adder,
     types: &[FieldType],
 ) -> Result<Seq<MapType>, MoveError>
-    requires { All (λ t. length (Beginning.class_name t) ≤ 0xffff) types.now }
+    requires { All (λ t. length (EntryLocals.class_name t) ≤ 0xffff) types.now }
     ensures { Puts (λ x. x) (with_each with_item types.now) result pool.old pool.new }
 {
     let mut items = Seq::new(alloc);
@@ -141,7 +141,7 @@ fn put_this(
     class: &ClassParts,
     method: &MemberInfo,
 ) -> Result<Seq<MapType>, MoveError>
-    requires { length (Parts.this_name class.now) ≤ 0xffff }
+    requires { length (ClassFileParts.this_name class.now) ≤ 0xffff }
     ensures { Puts (λ x. x) (with_this class.now method.now) result pool.old pool.new }
 {
     let mut items = Seq::new(alloc);
@@ -161,7 +161,7 @@ pub fn put_beginning(
     method: &MemberInfo,
     params: &[FieldType],
 ) -> Result<Seq<MapType>, MoveError>
-    requires { params.now ≡ Beginning.params_of class.now method.now }
+    requires { params.now ≡ EntryLocals.params_of class.now method.now }
     ensures { Puts (λ x. x) (with_beginning class.now method.now) result pool.old pool.new }
 {
     // What the proof needs: each text of a pool has at most 65,535 bytes.
@@ -173,15 +173,15 @@ pub fn put_beginning(
 }
 
 /// What the locals of a method hold where it begins, each class as the index 0.
-#[tactic(auto, unfolding(crate::specs::Beginning::bare_beginning))]
+#[tactic(auto, unfolding(crate::specs::EntryLocals::bare_beginning))]
 pub fn bare_beginning(
     alloc: Global,
     class: &ClassParts,
     method: &MemberInfo,
     params: &[FieldType],
 ) -> Result<Seq<MapType>, AllocError>
-    requires { params.now ≡ Beginning.params_of class.now method.now }
-    ensures { IfOk result (λ items. items ≡ Beginning.bare_beginning class.now method.now) }
+    requires { params.now ≡ EntryLocals.params_of class.now method.now }
+    ensures { IfOk result (λ items. items ≡ EntryLocals.bare_beginning class.now method.now) }
 {
     let mut items = bare_this(alloc, class, method)?;
     for t in params {
@@ -195,7 +195,7 @@ fn bare_this(
     class: &ClassParts,
     method: &MemberInfo,
 ) -> Result<Seq<MapType>, AllocError>
-    ensures { IfOk result (λ items. items ≡ Beginning.bare_this class.now method.now) }
+    ensures { IfOk result (λ items. items ≡ EntryLocals.bare_this class.now method.now) }
 {
     let mut items = Seq::new(alloc);
     if is_static(method) {

@@ -1,9 +1,9 @@
 ghost use Rattle.std.specs.Prelude.{◌≡◌, option_map};
-ghost use Rattle.jground.specs.jbase.First.{first_some};
-ghost use Rattle.jprogram.specs.Parts.{code_of};
+ghost use Rattle.jground.specs.jbase.FirstFaults.{first_some};
+ghost use Rattle.jresolution.specs.jprogram.ClassFileParts.{code_of};
 ghost use Rattle.jmoveclass.specs.ProofNames.{or_no_frames};
-ghost use Rattle.jmoveclass.specs.Moving.{seen_body};
-ghost use Rattle.jclass.specs.Codes.{maps_of};
+ghost use Rattle.jmoveclass.specs.MovableClasses.{seen_body};
+ghost use Rattle.jclass.specs.CodeFormat.{maps_of};
 
 use jclass::{Attribute, CodeAttribute, MemberInfo};
 use jparts::jcode::{Handler, Placed};
@@ -20,7 +20,7 @@ pub struct BodyRef<'a> {
 }
 
 /// The code of a method, where it has one.
-#[tactic(auto, unfolding(jprogram::specs::Parts::code_of, jground::specs::jbase::First::first_some))]
+#[tactic(auto, unfolding(jresolution::specs::jprogram::ClassFileParts::code_of, jground::specs::jbase::FirstFaults::first_some))]
 pub fn code_in(method: &MemberInfo) -> Option<BodyRef<'_>>
     ensures { option_map seen_body result ≡ code_of method.now }
 {
@@ -47,7 +47,7 @@ pub fn code_in(method: &MemberInfo) -> Option<BodyRef<'_>>
 }
 
 /// The frames of a method's StackMapTable, none where it has none.
-#[tactic(auto, unfolding(jground::specs::jbase::First::first_some))]
+#[tactic(auto, unfolding(jground::specs::jbase::FirstFaults::first_some))]
 pub fn frames_in(attributes: &[CodeAttribute]) -> &[RawFrame]
     ensures { result.now ≡ or_no_frames (first_some maps_of attributes.now) }
 {

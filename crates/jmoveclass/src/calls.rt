@@ -1,21 +1,21 @@
 ghost use Rattle.std.specs.Prelude.{◌≡◌, IfOk, Some, slice_get};
-ghost use Rattle.jprogram.specs.Members.{part_of, referred};
-ghost use Rattle.jmeaning.specs.juses.Uses.{AreUses};
-ghost use Rattle.jmoveclass.specs.Calls;
+ghost use Rattle.jresolution.specs.jprogram.MemberResolution.{part_of, referred};
+ghost use Rattle.jresolution.specs.juses.EntryUses.{AreUses};
+ghost use Rattle.jmoveclass.specs.CallExpansion;
 ghost use Rattle.jlib.specs.declared.calls.LibCall.TheVariants as calls;
-ghost use Rattle.jprogram.specs.declared.member.Member.TheVariants as members;
+ghost use Rattle.jresolution.specs.declared.jprogram.member.Member.TheVariants as members;
 
 use crate::moving::Moving;
 use jground::jbase::Seq;
 use jlib::{ControllerCall, LibCall, ThreadCall};
 use jmove::Expand;
 use jparts::jcode::{Op, Placed};
-use jprogram::Member;
+use jresolution::jprogram::Member;
 use std::alloc::{AllocError, Global};
 
 /// What a call of AccessController becomes.
 fn asking(n: u16, call: ControllerCall) -> Expand
-    ensures { result ≡ Calls.calling n (Some (members.LibMethod (calls.Controller call))) }
+    ensures { result ≡ CallExpansion.calling n (Some (members.LibMethod (calls.Controller call))) }
 {
     match call {
         ControllerCall::Check => Expand::Check(n),
@@ -27,7 +27,7 @@ fn asking(n: u16, call: ControllerCall) -> Expand
 }
 
 fn calling_library(n: u16, call: LibCall) -> Expand
-    ensures { result ≡ Calls.calling n (Some (members.LibMethod call)) }
+    ensures { result ≡ CallExpansion.calling n (Some (members.LibMethod call)) }
 {
     match call {
         LibCall::Run(_) => Expand::Call(n),
@@ -40,7 +40,7 @@ fn calling_library(n: u16, call: LibCall) -> Expand
 
 /// What a call by the reference at an index becomes, by the member that it stands for.
 fn calling(n: u16, member: Option<Member>) -> Expand
-    ensures { result ≡ Calls.calling n member }
+    ensures { result ≡ CallExpansion.calling n member }
 {
     match member {
         Some(Member::Method(_)) => Expand::Call(n),
@@ -61,7 +61,7 @@ fn stands_for(c: &Moving<'_>, n: u16) -> Option<Member>
 fn expand_by(c: &Moving<'_>, op: &Op) -> Expand
     requires uses { AreUses c.now.program.now c.now.uses.now }
     requires part { part_of c.now.program.now c.now.place ≡ Some c.now.class.now }
-    ensures { result ≡ Calls.expand_by (λ n. referred c.now.program.now c.now.class.now.pool (slice_get c.now.class.now.pool n)) op.now }
+    ensures { result ≡ CallExpansion.expand_by (λ n. referred c.now.program.now c.now.class.now.pool (slice_get c.now.class.now.pool n)) op.now }
 {
     match op {
         Op::Call(_, n) => calling(*n, stands_for(c, *n)),
@@ -71,11 +71,11 @@ fn expand_by(c: &Moving<'_>, op: &Op) -> Expand
 }
 
 /// What instructions of the class become.
-#[tactic(auto, unfolding(crate::specs::Calls::expands))]
+#[tactic(auto, unfolding(crate::specs::CallExpansion::expands))]
 pub fn expands(alloc: Global, c: &Moving<'_>, ops: &[Placed]) -> Result<Seq<Expand>, AllocError>
     requires uses { AreUses c.now.program.now c.now.uses.now }
     requires part { part_of c.now.program.now c.now.place ≡ Some c.now.class.now }
-    ensures { IfOk result (λ all. all ≡ Calls.expands c.now.program.now c.now.class.now.pool ops.now) }
+    ensures { IfOk result (λ all. all ≡ CallExpansion.expands c.now.program.now c.now.class.now.pool ops.now) }
 {
     let mut all = Seq::new(alloc);
     for one in ops {

@@ -1,9 +1,9 @@
 ghost use Rattle.std.specs.Prelude.{◌≡◌, ◌≤◌, All, IfOk, IsTrue, None, Option, option_map};
-ghost use Rattle.jground.specs.jbase.First.{first_some};
-ghost use Rattle.jparts.specs.jmaps.Frames.{maps};
-ghost use Rattle.jparts.specs.jmaps.Full;
-ghost use Rattle.jparts.specs.jmaps.Full.{expand_from};
-ghost use Rattle.jmoveclass.specs.Methods;
+ghost use Rattle.jground.specs.jbase.FirstFaults.{first_some};
+ghost use Rattle.jparts.specs.jmaps.StackMapFormat.{maps};
+ghost use Rattle.jparts.specs.jmaps.ExpandedFrames;
+ghost use Rattle.jparts.specs.jmaps.ExpandedFrames.{expand_from};
+ghost use Rattle.jmoveclass.specs.MovedMembers;
 ghost use Rattle.jmoveclass.specs.ProofNames.{or_none};
 
 use jclass::CodeAttribute;
@@ -30,7 +30,7 @@ pub fn in_full(
 /// The full form of a frame, behind the one at an earlier place.
 fn full_form(earlier: Option<u32>, frame: FullFrame) -> RawFrame
     requires { frame.at ≤ 0xffff }
-    ensures { result ≡ Full.full_form earlier frame }
+    ensures { result ≡ ExpandedFrames.full_form earlier frame }
 {
     let delta = match earlier {
         None => frame.at,
@@ -47,7 +47,7 @@ fn full_form(earlier: Option<u32>, frame: FullFrame) -> RawFrame
 /// The full forms of frames, one behind the other.
 fn full_forms(alloc: Global, frames: Seq<FullFrame>) -> Result<Seq<RawFrame>, AllocError>
     requires { All (λ f. f.at ≤ 0xffff) frames }
-    ensures { IfOk result (λ forms. forms ≡ Full.full_forms None frames) }
+    ensures { IfOk result (λ forms. forms ≡ ExpandedFrames.full_forms None frames) }
 {
     let mut forms = Seq::new(alloc);
     let mut earlier = None;
@@ -60,9 +60,9 @@ fn full_forms(alloc: Global, frames: Seq<FullFrame>) -> Result<Seq<RawFrame>, Al
 }
 
 /// The name of a code's StackMapTable, where it has one.
-#[tactic(auto, unfolding(jground::specs::jbase::First::first_some))]
+#[tactic(auto, unfolding(jground::specs::jbase::FirstFaults::first_some))]
 fn maps_name(attributes: &[CodeAttribute]) -> Option<u16>
-    ensures { result ≡ first_some Methods.maps_name attributes.now }
+    ensures { result ≡ first_some MovedMembers.maps_name attributes.now }
 {
     for attribute in attributes {
         if let CodeAttribute::Maps { name, .. } = attribute {
@@ -79,7 +79,7 @@ pub fn moved_maps(
     attributes: &[CodeAttribute],
 ) -> Result<Seq<CodeAttribute>, AllocError>
     requires { All (λ f. f.at ≤ 0xffff) frames }
-    ensures { IfOk result (λ moved. moved ≡ Methods.moved_maps frames (first_some Methods.maps_name attributes.now)) }
+    ensures { IfOk result (λ moved. moved ≡ MovedMembers.moved_maps frames (first_some MovedMembers.maps_name attributes.now)) }
 {
     let mut moved = Seq::new(alloc);
     if frames.as_slice().is_empty() {

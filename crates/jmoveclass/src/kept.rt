@@ -1,7 +1,7 @@
 ghost use Rattle.std.specs.Prelude.{◌≡◌, ◌++◌, ◌∷◌, [], IfOk, OnOk, if◌then◌else◌};
 ghost use Rattle.std.specs.List.{filter};
-ghost use Rattle.jclass.specs.Members;
-ghost use Rattle.jmoveclass.specs.Kept;
+ghost use Rattle.jclass.specs.MemberFormat;
+ghost use Rattle.jmoveclass.specs.KeptAttributes;
 
 use jclass::{Attribute, is_text};
 use jground::jbase::Seq;
@@ -9,7 +9,7 @@ use jparts::jpool::Pool;
 use std::alloc::{AllocError, Global};
 
 fn name_of(one: &Attribute) -> u16
-    ensures { result ≡ Members.attribute_name one.now }
+    ensures { result ≡ MemberFormat.attribute_name one.now }
 {
     match one {
         Attribute::ConstantValue { name, .. } => *name,
@@ -19,9 +19,9 @@ fn name_of(one: &Attribute) -> u16
 }
 
 /// Whether a moved class keeps an attribute of its class.
-#[tactic(auto, unfolding(crate::specs::Kept::class_keeps))]
+#[tactic(auto, unfolding(crate::specs::KeptAttributes::class_keeps))]
 fn class_keeps(pool: &Pool, one: &Attribute) -> bool
-    ensures { result ≡ Kept.class_keeps pool.now one.now }
+    ensures { result ≡ KeptAttributes.class_keeps pool.now one.now }
 {
     let text = pool.utf8(name_of(one));
     is_text(text, b"SourceFile")
@@ -31,9 +31,9 @@ fn class_keeps(pool: &Pool, one: &Attribute) -> bool
 }
 
 /// Whether a moved method keeps an attribute of its method that isn't its code.
-#[tactic(auto, unfolding(crate::specs::Kept::method_keeps))]
+#[tactic(auto, unfolding(crate::specs::KeptAttributes::method_keeps))]
 pub fn method_keeps(pool: &Pool, one: &Attribute) -> bool
-    ensures { result ≡ Kept.method_keeps pool.now one.now }
+    ensures { result ≡ KeptAttributes.method_keeps pool.now one.now }
 {
     let text = pool.utf8(name_of(one));
     is_text(text, b"Exceptions") || is_text(text, b"Deprecated") || is_text(text, b"Synthetic")
@@ -45,7 +45,7 @@ fn put_kept(
     one: &Attribute,
     kept: &mut Seq<Attribute>,
 ) -> Result<(), AllocError>
-    ensures { OnOk result (kept.new ≡ kept.old ++ filter (Kept.class_keeps pool.now) (one.now ∷ [])) }
+    ensures { OnOk result (kept.new ≡ kept.old ++ filter (KeptAttributes.class_keeps pool.now) (one.now ∷ [])) }
 {
     if class_keeps(pool, one) {
         let same = one.copy(alloc)?;
@@ -60,7 +60,7 @@ pub fn kept_of_class(
     pool: &Pool,
     attributes: &[Attribute],
 ) -> Result<Seq<Attribute>, AllocError>
-    ensures { IfOk result (λ kept. kept ≡ filter (Kept.class_keeps pool.now) attributes.now) }
+    ensures { IfOk result (λ kept. kept ≡ filter (KeptAttributes.class_keeps pool.now) attributes.now) }
 {
     let mut kept = Seq::new(alloc);
     for one in attributes {

@@ -1,20 +1,18 @@
 //! One moved class: each of its methods takes its caller's context (`jmove`), its pool names what they need, and of the attributes
 //! those are kept that say nothing of code. The rewriter (`jrewrite`) stands on it.
 //!
-//! - `Calls`: what an instruction becomes, by what its reference stands for.
-//! - `Beginning`: what the locals of a method hold where it begins, as frames say it.
-//! - `Kept`: which attributes are kept.
-//! - `Methods`, `Moved`: the moved method, the moved class.
-//! - `Limits`: the first limit that a class breaks.
-//! - `Moving`: what is asked of a class that is to be moved.
-//! - `Puts`: what is put into a pool, item by item.
+//! - `CallExpansion`: what an instruction becomes, by what its reference stands for.
+//! - `EntryLocals`: what the locals of a method hold where it begins, as frames say it.
+//! - `KeptAttributes`: which attributes are kept.
+//! - `MovedMembers`, `MovedClasses`: the moved method, the moved class.
+//! - `ClassLimits`: the first limit that a class breaks.
+//! - `MovableClasses`: what is asked of a class that is to be moved.
+//! - `PoolPuts`: what is put into a pool, item by item.
 //!
 //! Proved: `moved_class` answers exactly the moved class where no limit is broken, and else the first: the methods in their order, and
 //! the pool without room last, with no method.
 //!
 //! `ProofNames` are names by which proofs and contracts of inner functions call what the definitions say in place.
-//!
-//! Rooms of moving and jobs and the top may name it.
 #![tactic(auto)]
 
 mod beginning;

@@ -1,11 +1,11 @@
 ghost use Rattle.std.specs.Prelude.{◌≡◌, ◌≤◌, IfOk};
-ghost use Rattle.jground.specs.jbase.First.{first_along};
-ghost use Rattle.jclass.specs.Stored.{IsIn};
-ghost use Rattle.jmoveclass.specs.Beginning;
-ghost use Rattle.jmoveclass.specs.Limits;
+ghost use Rattle.jground.specs.jbase.FirstFaults.{first_along};
+ghost use Rattle.jclass.specs.FileContents.{IsIn};
+ghost use Rattle.jmoveclass.specs.EntryLocals;
+ghost use Rattle.jmoveclass.specs.ClassLimits;
 ghost use Rattle.jmoveclass.specs.ProofNames;
-ghost use Rattle.jmoveclass.specs.Limits.{at_method};
-ghost use Rattle.jmoveclass.specs.Moving.{IsCode, IsMoving, seen_body};
+ghost use Rattle.jmoveclass.specs.ClassLimits.{at_method};
+ghost use Rattle.jmoveclass.specs.MovableClasses.{IsCode, IsMoving, seen_body};
 
 use crate::beginning::{bare_beginning, params_of, slots};
 use crate::body::{BodyRef, code_in};
@@ -19,7 +19,7 @@ use jparts::jpool::FieldType;
 use std::alloc::{AllocError, Global};
 
 fn kind_of(limit: MoveError) -> RewriteKind
-    ensures { result ≡ Limits.kind_of limit }
+    ensures { result ≡ ClassLimits.kind_of limit }
 {
     match limit {
         MoveError::Slots => RewriteKind::Slots,
@@ -40,9 +40,9 @@ fn code_limit(
     b: BodyRef<'_>,
 ) -> Result<Option<RewriteKind>, AllocError>
     requires moving { IsMoving c.now }
-    requires params { params.now ≡ Beginning.params_of c.now.class.now m.now }
+    requires params { params.now ≡ EntryLocals.params_of c.now.class.now m.now }
     requires code { IsCode c.now.class.now m.now (seen_body b) }
-    ensures { IfOk result (λ limit. limit ≡ Limits.code_limit c.now.program.now c.now.class.now m.now (seen_body b.entry)) }
+    ensures { IfOk result (λ limit. limit ≡ ClassLimits.code_limit c.now.program.now c.now.class.now m.now (seen_body b.entry)) }
 {
     let first = bare_beginning(alloc, c.class, m, params)?;
     let kinds = expands(alloc, c, b.ops)?;
@@ -55,8 +55,8 @@ fn code_limit(
 }
 
 fn slots_limit(class: &ClassParts, m: &MemberInfo, params: &[FieldType]) -> Option<RewriteKind>
-    requires params { params.now ≡ Beginning.params_of class.now m.now }
-    requires few { Beginning.slots class.now m.now ≤ 255 }
+    requires params { params.now ≡ EntryLocals.params_of class.now m.now }
+    requires few { EntryLocals.slots class.now m.now ≤ 255 }
     ensures { result ≡ ProofNames.slots_limit class.now m.now }
 {
     if slots(class, m, params) == 255 {
@@ -66,7 +66,7 @@ fn slots_limit(class: &ClassParts, m: &MemberInfo, params: &[FieldType]) -> Opti
 }
 
 /// The first limit that a method would break.
-#[tactic(auto, unfolding(crate::specs::Limits::method_limit))]
+#[tactic(auto, unfolding(crate::specs::ClassLimits::method_limit))]
 fn method_limit(
     alloc: Global,
     c: &Moving<'_>,
@@ -74,7 +74,7 @@ fn method_limit(
 ) -> Result<Option<RewriteKind>, AllocError>
     requires moving { IsMoving c.now }
     requires method { IsIn m.now c.now.class.now.methods }
-    ensures { IfOk result (λ limit. limit ≡ Limits.method_limit c.now.program.now c.now.class.now m.now) }
+    ensures { IfOk result (λ limit. limit ≡ ClassLimits.method_limit c.now.program.now c.now.class.now m.now) }
 {
     let params = params_of(alloc, c.class, m)?;
     let Some(b) = code_in(m) else {
@@ -84,10 +84,10 @@ fn method_limit(
 }
 
 /// The first limit that the methods of a class would break.
-#[tactic(auto, unfolding(jground::specs::jbase::First::first_along))]
+#[tactic(auto, unfolding(jground::specs::jbase::FirstFaults::first_along))]
 pub fn methods_limit(alloc: Global, c: &Moving<'_>) -> Result<Option<Limit>, AllocError>
     requires { IsMoving c.now }
-    ensures { IfOk result (λ limit. limit ≡ first_along (λ j m. at_method j (Limits.method_limit c.now.program.now c.now.class.now m)) 0 c.now.class.now.methods) }
+    ensures { IfOk result (λ limit. limit ≡ first_along (λ j m. at_method j (ClassLimits.method_limit c.now.program.now c.now.class.now m)) 0 c.now.class.now.methods) }
 {
     for (j, m) in c.class.methods.as_slice().iter().enumerate() {
         let place = j as u32;

@@ -1,17 +1,17 @@
 ghost use Rattle.std.specs.Prelude.{◌≡◌, ◌≤◌, ◌<◌, ◌++◌, ◌∷◌, [], All, IfOk, IsTrue, None, OnOk, length, option_map};
 ghost use Rattle.std.specs.Option.{option_to_list};
 ghost use Rattle.jclass.specs.Class.{class_file};
-ghost use Rattle.jclass.specs.Stored.{IsIn};
-ghost use Rattle.jmove.specs.Moved;
-ghost use Rattle.jmove.specs.Moved.{CanMove};
-ghost use Rattle.jmoveclass.specs.Beginning;
-ghost use Rattle.jmoveclass.specs.Beginning.{bare_beginning};
-ghost use Rattle.jmoveclass.specs.Calls;
-ghost use Rattle.jmoveclass.specs.Methods;
-ghost use Rattle.jmoveclass.specs.Methods.{with_attribute, with_code, with_first, with_method, with_moved};
-ghost use Rattle.jmoveclass.specs.Moving.{HasNoLimit, IsCode, IsMoving, named_body, seen_body};
-ghost use Rattle.jmoveclass.specs.Puts.{Puts, with_each};
-ghost use Rattle.jclass.specs.Codes;
+ghost use Rattle.jclass.specs.FileContents.{IsIn};
+ghost use Rattle.jmove.specs.MethodExpansion;
+ghost use Rattle.jmove.specs.MethodExpansion.{CanMove};
+ghost use Rattle.jmoveclass.specs.EntryLocals;
+ghost use Rattle.jmoveclass.specs.EntryLocals.{bare_beginning};
+ghost use Rattle.jmoveclass.specs.CallExpansion;
+ghost use Rattle.jmoveclass.specs.MovedMembers;
+ghost use Rattle.jmoveclass.specs.MovedMembers.{with_attribute, with_code, with_first, with_method, with_moved};
+ghost use Rattle.jmoveclass.specs.MovableClasses.{HasNoLimit, IsCode, IsMoving, named_body, seen_body};
+ghost use Rattle.jmoveclass.specs.PoolPuts.{Puts, with_each};
+ghost use Rattle.jclass.specs.CodeFormat;
 
 use crate::beginning::{params_of, put_beginning, slots};
 use crate::body::{BodyRef, frames_in};
@@ -26,7 +26,7 @@ use jmove::{Expand, MethodIn, MethodOut, MoveError, move_method, moved_descripto
 use jparts::jcode::Placed;
 use jparts::jmaps::MapType;
 use jparts::jpool::{FieldType, Pool};
-use jprogram::member_desc;
+use jresolution::jprogram::member_desc;
 use std::alloc::{AllocError, Global};
 
 // ---- the method that is moved
@@ -44,7 +44,7 @@ fn ops_again(alloc: Global, ops: &[Placed]) -> Result<Seq<Placed>, AllocError>
 }
 
 /// A method with code, whose locals hold `first` where it begins.
-#[tactic(auto, unfolding(crate::specs::Methods::frames_of))]
+#[tactic(auto, unfolding(crate::specs::MovedMembers::frames_of))]
 pub fn method_in(
     alloc: Global,
     class: &ClassParts,
@@ -53,10 +53,10 @@ pub fn method_in(
     b: BodyRef<'_>,
     first: &[MapType],
 ) -> Result<MethodIn, AllocError>
-    requires params { params.now ≡ Beginning.params_of class.now m.now }
+    requires params { params.now ≡ EntryLocals.params_of class.now m.now }
     requires good { IsTrue (class_file.fits class.now) }
     requires code { IsCode class.now m.now (seen_body b) }
-    ensures { IfOk result (λ x. x ≡ Methods.method_in class.now m.now (seen_body b.entry) first.now) }
+    ensures { IfOk result (λ x. x ≡ MovedMembers.method_in class.now m.now (seen_body b.entry) first.now) }
 {
     let frames = in_full(alloc, first, frames_in(b.attributes))?;
     let ops = ops_again(alloc, b.ops)?;
@@ -83,7 +83,7 @@ fn moved_code(
     requires stack { out.max_stack ≤ 0xffff }
     requires locals { out.max_locals ≤ 0xffff }
     requires frames { All (λ f. f.at ≤ 0xffff) out.frames }
-    ensures { IfOk result (λ a. a ≡ Methods.moved_code name (seen_body b.entry) out) }
+    ensures { IfOk result (λ a. a ≡ MovedMembers.moved_code name (seen_body b.entry) out) }
 {
     let attributes = moved_maps(alloc, out.frames, b.attributes)?;
     Ok(Attribute::Code {
@@ -106,8 +106,8 @@ fn put_first(
     b: BodyRef<'_>,
 ) -> Result<Seq<MapType>, MoveError>
     requires moving { IsMoving c.now }
-    requires params { params.now ≡ Beginning.params_of c.now.class.now m.now }
-    ensures { Puts (λ x. x) (with_first c.now.class.now m.now (Codes.frames_in (seen_body b.entry))) result pool.old pool.new }
+    requires params { params.now ≡ EntryLocals.params_of c.now.class.now m.now }
+    ensures { Puts (λ x. x) (with_first c.now.class.now m.now (CodeFormat.frames_in (seen_body b.entry))) result pool.old pool.new }
 {
     if frames_in(b.attributes).is_empty() {
         return Ok(Seq::new(alloc));
@@ -127,7 +127,7 @@ fn put_moved(
 ) -> Result<Attribute, MoveError>
     requires can { CanMove m.now kinds.now }
     requires domain { domain < 4096 }
-    requires limits { Moved.limit_of m.now kinds.now ≡ None }
+    requires limits { MethodExpansion.limit_of m.now kinds.now ≡ None }
     ensures { Puts (λ x. x) (with_moved domain kinds.now name (seen_body b.entry) m.now) result pool.old pool.new }
 {
     let out = move_method(alloc, m, kinds, domain, pool)?;
@@ -136,7 +136,7 @@ fn put_moved(
 }
 
 /// Puts what the code of a method names, and moves it.
-#[tactic(auto, unfolding(crate::specs::Methods::with_code))]
+#[tactic(auto, unfolding(crate::specs::MovedMembers::with_code))]
 fn put_code(
     alloc: Global,
     pool: &mut Adder,
@@ -147,10 +147,10 @@ fn put_code(
     b: BodyRef<'_>,
 ) -> Result<Attribute, MoveError>
     requires moving { IsMoving c.now }
-    requires params { params.now ≡ Beginning.params_of c.now.class.now m.now }
+    requires params { params.now ≡ EntryLocals.params_of c.now.class.now m.now }
     requires code { IsCode c.now.class.now m.now (seen_body b) }
-    requires limits { Moved.limit_of (Methods.method_in c.now.class.now m.now (seen_body b) (bare_beginning c.now.class.now m.now))
-        (Calls.expands c.now.program.now c.now.class.now.pool b.ops.now) ≡ None }
+    requires limits { MethodExpansion.limit_of (MovedMembers.method_in c.now.class.now m.now (seen_body b) (bare_beginning c.now.class.now m.now))
+        (CallExpansion.expands c.now.program.now c.now.class.now.pool b.ops.now) ≡ None }
     ensures { Puts (λ x. x) (with_code c.now.program.now c.now.class.now c.now.domain m.now name (seen_body b.entry)) result pool.old pool.new }
 {
     let first = put_first(alloc, pool, c, m, params, b)?;
@@ -190,7 +190,7 @@ fn body_in(one: &Attribute) -> Option<(u16, BodyRef<'_>)>
 
 /// An attribute that isn't code, where it is kept.
 fn kept(alloc: Global, pool: &Pool, one: &Attribute) -> Result<Option<Attribute>, AllocError>
-    ensures { IfOk result (λ a. option_to_list a ≡ Methods.kept_alone pool.now one.now) }
+    ensures { IfOk result (λ a. option_to_list a ≡ MovedMembers.kept_alone pool.now one.now) }
 {
     match one {
         Attribute::Raw { .. } => {
@@ -214,7 +214,7 @@ fn put_attribute(
     one: &Attribute,
 ) -> Result<Option<Attribute>, MoveError>
     requires moving { IsMoving c.now }
-    requires params { params.now ≡ Beginning.params_of c.now.class.now m.now }
+    requires params { params.now ≡ EntryLocals.params_of c.now.class.now m.now }
     requires method { IsIn m.now c.now.class.now.methods }
     requires there { IsIn one.now m.now.attributes }
     requires limits { HasNoLimit c.now.program.now c.now.class.now m.now }
@@ -246,7 +246,7 @@ fn put_attributes(
     params: &[FieldType],
 ) -> Result<Seq<Attribute>, MoveError>
     requires moving { IsMoving c.now }
-    requires params { params.now ≡ Beginning.params_of c.now.class.now m.now }
+    requires params { params.now ≡ EntryLocals.params_of c.now.class.now m.now }
     requires method { IsIn m.now c.now.class.now.methods }
     requires limits { HasNoLimit c.now.program.now c.now.class.now m.now }
     ensures { Puts (λ x. x) (with_each (with_attribute c.now.program.now c.now.class.now c.now.domain m.now) m.now.attributes) result pool.old pool.new }
@@ -263,7 +263,7 @@ fn put_attributes(
 fn new_desc(alloc: Global, c: &Moving<'_>, m: &MemberInfo) -> Result<Seq<u8>, AllocError>
     requires moving { IsMoving c.now }
     requires method { IsIn m.now c.now.class.now.methods }
-    ensures text { IfOk result (λ text. text ≡ Methods.new_desc c.now.class.now m.now) }
+    ensures text { IfOk result (λ text. text ≡ MovedMembers.new_desc c.now.class.now m.now) }
 {
     match moved_descriptor(alloc, member_desc(c.class, m))? {
         Some(text) => Ok(Seq::from_vec(text)),
@@ -272,7 +272,7 @@ fn new_desc(alloc: Global, c: &Moving<'_>, m: &MemberInfo) -> Result<Seq<u8>, Al
 }
 
 /// Puts what a method of a class names when it is moved.
-#[tactic(auto, unfolding(crate::specs::Methods::with_method))]
+#[tactic(auto, unfolding(crate::specs::MovedMembers::with_method))]
 pub fn put_method(
     alloc: Global,
     pool: &mut Adder,
@@ -281,7 +281,7 @@ pub fn put_method(
 ) -> Result<MemberInfo, MoveError>
     requires moving { IsMoving c.now }
     requires method { IsIn m.now c.now.class.now.methods }
-    requires short { length (Methods.new_desc c.now.class.now m.now) ≤ 0xffff }
+    requires short { length (MovedMembers.new_desc c.now.class.now m.now) ≤ 0xffff }
     requires limits { HasNoLimit c.now.program.now c.now.class.now m.now }
     ensures { Puts (λ x. x ∷ []) (with_method c.now.program.now c.now.class.now c.now.domain m.now) result pool.old pool.new }
 {

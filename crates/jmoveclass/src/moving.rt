@@ -1,6 +1,6 @@
 use jclass::ClassParts;
-use jmeaning::juses::Uses;
-use jprogram::NamedProgram;
+use jresolution::jprogram::NamedProgram;
+use jresolution::juses::Uses;
 
 /// A class of a program that is to be moved.
 #[derive(Clone, Copy)]

@@ -1,11 +1,11 @@
 ghost use Rattle.std.specs.Prelude.{◌≡◌, IfOk, MatchResult, None};
-ghost use Rattle.jground.specs.jbase.First.{first_along};
-ghost use Rattle.jmoveclass.specs.Limits;
-ghost use Rattle.jmoveclass.specs.Limits.{ClassErrorIs, HasNone, at_method};
-ghost use Rattle.jmoveclass.specs.Moved;
-ghost use Rattle.jmoveclass.specs.Methods.{with_method};
-ghost use Rattle.jmoveclass.specs.Moving.{IsMoving};
-ghost use Rattle.jmoveclass.specs.Puts.{Puts, with_each};
+ghost use Rattle.jground.specs.jbase.FirstFaults.{first_along};
+ghost use Rattle.jmoveclass.specs.ClassLimits;
+ghost use Rattle.jmoveclass.specs.ClassLimits.{ClassErrorIs, HasNone, at_method};
+ghost use Rattle.jmoveclass.specs.MovedClasses;
+ghost use Rattle.jmoveclass.specs.MovedMembers.{with_method};
+ghost use Rattle.jmoveclass.specs.MovableClasses.{IsMoving};
+ghost use Rattle.jmoveclass.specs.PoolPuts.{Puts, with_each};
 
 use crate::kept::kept_of_class;
 use crate::limit::{ClassError, Limit, RewriteKind};
@@ -44,7 +44,7 @@ fn class_with(
     methods: Seq<MemberInfo>,
     pool: Pool,
 ) -> Result<ClassParts, AllocError>
-    ensures { IfOk result (λ moved. moved ≡ Moved.class_with class.now (methods, pool)) }
+    ensures { IfOk result (λ moved. moved ≡ MovedClasses.class_with class.now (methods, pool)) }
 {
     let interfaces = class.interfaces.copy(alloc)?;
     let fields = all_again(alloc, class.fields.as_slice())?;
@@ -81,9 +81,9 @@ const POOL_FULL: Limit = Limit {
 fn moved(alloc: Global, c: &Moving<'_>) -> Result<ClassParts, ClassError>
     requires moving { IsMoving c.now }
     requires limits { HasNone c.now.program.now c.now.class.now }
-    ensures { MatchResult result (λ class. (Limits.class_limit c.now.program.now c.now.domain c.now.class.now ≡ None)
-        × (class ≡ Moved.moved_class c.now.program.now c.now.domain c.now.class.now))
-        (ClassErrorIs (Limits.class_limit c.now.program.now c.now.domain c.now.class.now)) }
+    ensures { MatchResult result (λ class. (ClassLimits.class_limit c.now.program.now c.now.domain c.now.class.now ≡ None)
+        × (class ≡ MovedClasses.moved_class c.now.program.now c.now.domain c.now.class.now))
+        (ClassErrorIs (ClassLimits.class_limit c.now.program.now c.now.domain c.now.class.now)) }
 {
     let mut pool = adder_of(alloc, c)?;
     match put_methods(alloc, &mut pool, c) {
@@ -105,9 +105,9 @@ fn moved(alloc: Global, c: &Moving<'_>) -> Result<ClassParts, ClassError>
 /// `At` comes exactly where a limit is broken, and says the first: the methods in their order, and the pool last.
 pub fn moved_class(alloc: Global, c: &Moving<'_>) -> Result<ClassParts, ClassError>
     requires { IsMoving c.now }
-    ensures { MatchResult result (λ class. (Limits.class_limit c.now.program.now c.now.domain c.now.class.now ≡ None)
-        × (class ≡ Moved.moved_class c.now.program.now c.now.domain c.now.class.now))
-        (ClassErrorIs (Limits.class_limit c.now.program.now c.now.domain c.now.class.now)) }
+    ensures { MatchResult result (λ class. (ClassLimits.class_limit c.now.program.now c.now.domain c.now.class.now ≡ None)
+        × (class ≡ MovedClasses.moved_class c.now.program.now c.now.domain c.now.class.now))
+        (ClassErrorIs (ClassLimits.class_limit c.now.program.now c.now.domain c.now.class.now)) }
 {
     let found = methods_limit(alloc, c)?;
     if let Some(limit) = found {

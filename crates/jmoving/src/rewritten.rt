@@ -1,18 +1,18 @@
 ghost use Rattle.std.specs.Prelude.{◌≡◌, ℕ, IfOk, List, MatchResult, None};
 ghost use Rattle.jlib.specs.declared.side.Side.TheVariants as sides;
-ghost use Rattle.jlinking.specs.jlink.Links.{Links};
-ghost use Rattle.jprogram.specs.Members.{main_of};
-ghost use Rattle.jrewriting.specs.jrewrite.Files;
-ghost use Rattle.jrewriting.specs.jrewrite.Files.{IsRewritten};
-ghost use Rattle.jrewriting.specs.jrewrite.Program;
-ghost use Rattle.jrewriting.specs.jrewrite.Program.{RewriteErrorIs};
-ghost use Rattle.jtyping.specs.Typing.{WellTyped};
+ghost use Rattle.jlinking.specs.jlink.LinkedPrograms.{Links};
+ghost use Rattle.jresolution.specs.jprogram.MemberResolution.{main_of};
+ghost use Rattle.jrewriting.specs.jrewrite.RewrittenFiles;
+ghost use Rattle.jrewriting.specs.jrewrite.RewrittenFiles.{IsRewritten};
+ghost use Rattle.jrewriting.specs.jrewrite.RewrittenPrograms;
+ghost use Rattle.jrewriting.specs.jrewrite.RewrittenPrograms.{RewriteErrorIs};
+ghost use Rattle.jtyping.specs.jwelltyped.VerifierTests.{WellTyped};
 
 use jcheck::{CheckedProgram, PlainProgram};
 use jground::jbase::Seq;
 use jlinking::jlink::LinkedProgram;
-use jmovedlaws::jretype::types_law;
-use jmovedlaws::jseen::begin_law;
+use jmoved_laws::names::begin_law;
+use jmoved_laws::types::types_law;
 use jrewriting::jrewrite::{OutFile, RewriteError, files_of, link_law, moved_program};
 use std::alloc::{AllocError, Global};
 use std::marker::Model;
@@ -25,9 +25,9 @@ pub struct RewrittenProgram {
 }
 
 impl Model for RewrittenProgram {
-    ghost use Rattle.jprogram.specs.Classes.{Program};
-    ghost use Rattle.jrewriting.specs.jrewrite.Files.{IsRewritten};
-    ghost use Rattle.jtyping.specs.Typing.{WellTyped};
+    ghost use Rattle.jresolution.specs.jprogram.ProgramClasses.{Program};
+    ghost use Rattle.jrewriting.specs.jrewrite.RewrittenFiles.{IsRewritten};
+    ghost use Rattle.jtyping.specs.jwelltyped.VerifierTests.{WellTyped};
 
     ghost Value = { Program };
 
@@ -40,9 +40,9 @@ impl Model for RewrittenProgram {
 /// class, in each its methods in their order, and its pool last. Where none is broken the moved program links and is well typed.
 pub fn rewrite(alloc: Global, p: &CheckedProgram) -> Result<RewrittenProgram, RewriteError>
     requires side { p.now.side ≡ sides.Source }
-    ensures moved { MatchResult result (λ q. (Program.limits p.now ≡ None) × (q ≡ Program.moved p.now)) (RewriteErrorIs (Program.limits p.now)) }
-    ensures links { Program.limits p.now ≡ None → Links (Program.moved p.now) }
-    ensures typed { Program.limits p.now ≡ None → WellTyped (Program.moved p.now) }
+    ensures moved { MatchResult result (λ q. (RewrittenPrograms.limits p.now ≡ None) × (q ≡ RewrittenPrograms.moved p.now)) (RewriteErrorIs (RewrittenPrograms.limits p.now)) }
+    ensures links { RewrittenPrograms.limits p.now ≡ None → Links (RewrittenPrograms.moved p.now) }
+    ensures typed { RewrittenPrograms.limits p.now ≡ None → WellTyped (RewrittenPrograms.moved p.now) }
     // The `main` of each class is the same method.
     ensures mains { IfOk result (λ q. (name : List ℕ) → main_of q name ≡ main_of p.now name) }
 {
@@ -66,7 +66,7 @@ impl RewrittenProgram {
 
     /// Its class files in its order: the bytes that spell each, with the number of its code source and its name.
     pub fn files(&self, alloc: Global) -> Result<Seq<OutFile>, AllocError>
-        ensures { IfOk result (λ files. files ≡ Files.files_of self.now) }
+        ensures { IfOk result (λ files. files ≡ RewrittenFiles.files_of self.now) }
     {
         files_of(alloc, &self.program)
     }

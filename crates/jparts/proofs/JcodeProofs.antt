@@ -3,7 +3,7 @@ pub mod FormExamples
 pub mod OpcodeLaws
 pub mod OperandLaws
 pub mod Places
-pub mod Rows
+pub mod OpcodeRows
 pub mod Sizes
-pub mod Stopping
-pub mod Tabled
+pub mod FaultPropagation
+pub mod OpcodeTables

@@ -1,10 +1,10 @@
 pub mod EntryLaws
-pub mod Fitting
-pub mod Grown
+pub mod NumberWidths
+pub mod PoolExtension
 pub mod Params
-pub mod Parts
+pub mod NameScans
 pub mod PoolLaws
 pub mod Pushes
-pub mod Spelled
-pub mod Spelling
+pub mod DescriptorTexts
+pub mod EntrySpellings
 pub mod Tables

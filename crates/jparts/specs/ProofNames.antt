@@ -2,14 +2,14 @@
 -- reaches none of them.
 use Rattle.std.specs.Prelude.{ℕ, ℤ, if◌then◌else◌, List, Option, None, Some, int_lt, ◌+◌, ◌-ℤ◌, unsigned_abs, Result, ok_or, ◌&&◌, ◌==◌}
 use Rattle.jground.specs.jformat.Format.{◌·◌, Format, such}
-use Rattle.jground.specs.jbase.First.{fault_if}
+use Rattle.jground.specs.jbase.FirstFaults.{fault_if}
 use Rattle.jparts.specs.declared.jcode.op.Ldc.{Ldc}
 use Rattle.jparts.specs.declared.jcode.op.Goto.{Goto}
 use Rattle.jparts.specs.declared.jcode.op.Wide.{Wide}
-use Rattle.jparts.specs.declared.jcode.form.LocalForm.{LocalForm}
-use Rattle.jparts.specs.declared.jcode.form.LocalForm.TheVariants.{Move, Increment}
+use Rattle.jparts.specs.declared.jcode.op_form.LocalForm.{LocalForm}
+use Rattle.jparts.specs.declared.jcode.op_form.LocalForm.TheVariants.{Move, Increment}
 use Rattle.jparts.specs.declared.jcode.names.ObjectOp.{ObjectOp}
-use Rattle.jparts.specs.declared.jcode.form.Form.{Form}
+use Rattle.jparts.specs.declared.jcode.op_form.OpForm.{OpForm}
 use Rattle.jparts.specs.declared.jcode.op.Switch.{Switch}
 use Rattle.jparts.specs.declared.jcode.names.ObjectOp.TheVariants.{ArrayLength, Throw}
 use Rattle.jparts.specs.declared.jcode.op.Op.{Op}
@@ -24,19 +24,19 @@ use Rattle.jparts.specs.declared.jcode.names.FieldOp.{FieldOp}
 use Rattle.jparts.specs.declared.jcode.names.FieldOp.TheVariants.{GetStatic, PutStatic, GetField, PutField}
 use Rattle.jparts.specs.declared.jcode.fault.CodeFault.{CodeFault}
 use Rattle.jparts.specs.declared.jcode.fault.CodeFault.TheVariants.{BadOperand}
-use Rattle.jparts.specs.jcode.Operands.{i4}
+use Rattle.jparts.specs.jcode.OperandFormats.{i4}
 use Rattle.jparts.specs.declared.jmaps.types.Row.{Row}
 use Rattle.jparts.specs.jpool.Descriptors.{is_wide}
 use Rattle.jparts.specs.declared.jpool.fault.PoolFault.{PoolFault}
-use Rattle.jparts.specs.jpool.Entries.{u1, u2}
+use Rattle.jparts.specs.jpool.PoolEntries.{u1, u2}
 use Rattle.jparts.specs.declared.jcode.op.Ldc.TheVariants as ldcs
 use Rattle.jparts.specs.declared.jcode.op.Goto.TheVariants as gotos
 use Rattle.jparts.specs.declared.jcode.op.Wide.TheVariants as wides
-use Rattle.jparts.specs.declared.jcode.form.Form.TheVariants as forms
-use Rattle.jparts.specs.declared.jcode.form.ArrayForm.TheVariants as arrays
-use Rattle.jparts.specs.declared.jcode.form.Flow.TheVariants as flows
+use Rattle.jparts.specs.declared.jcode.op_form.OpForm.TheVariants as forms
+use Rattle.jparts.specs.declared.jcode.op_form.ArrayForm.TheVariants as arrays
+use Rattle.jparts.specs.declared.jcode.op_form.Flow.TheVariants as flows
 
--- ---- of jcode.Forms
+-- ---- of jcode.InstructionForms
 
 abbrev pub ldc_index : Ldc → ℕ
 ldc_index = elim [ ldcs.Narrow n ↦ n | ldcs.Wide n ↦ n ]
@@ -47,7 +47,7 @@ distance = elim [ gotos.Narrow by ↦ by | gotos.Wide by ↦ by ]
 abbrev pub wide_form : Wide → LocalForm
 wide_form = elim [ wides.Local kind access n ↦ Move access kind n | wides.Iinc n by ↦ Increment n by ]
 
-abbrev pub object_form : ObjectOp → Form Switch
+abbrev pub object_form : ObjectOp → OpForm Switch
 object_form = elim [ ArrayLength ↦ forms.Array arrays.Length | Throw ↦ forms.Flow flows.Throw ]
 
 -- ---- of jcode.Instructions
@@ -72,7 +72,7 @@ call_step = elim [ Virtual ↦ 0 | Special ↦ 1 | Static ↦ 2 ]
 abbrev pub field_step : FieldOp → ℕ
 field_step = elim [ GetStatic ↦ 0 | PutStatic ↦ 1 | GetField ↦ 2 | PutField ↦ 3 ]
 
--- ---- of jcode.Operands
+-- ---- of jcode.OperandFormats
 
 -- the least and the greatest int of a table
 abbrev pub bounds : Format CodeFault (ℤ × ℤ)
@@ -82,7 +82,7 @@ bounds = such (λ b. fault_if (int_lt b.1 b.0) BadOperand) (i4 · i4)
 abbrev pub span : ℤ → ℤ → ℕ
 span low high = unsigned_abs (high -ℤ low) + 1
 
--- ---- of jmaps.Frames
+-- ---- of jmaps.StackMapFormat
 
 abbrev pub or_kind : {K : Type 0} → K → Option Row → Result Row K
 or_kind kind x = ok_or x kind
@@ -92,7 +92,7 @@ or_kind kind x = ok_or x kind
 abbrev pub slots_of_type : ℕ → ℕ → ℕ
 slots_of_type depth base = if depth == 0 && is_wide base then 2 else 1
 
--- ---- of jpool.Entries
+-- ---- of jpool.PoolEntries
 
 abbrev pub handle : Format PoolFault (ℕ × ℕ)
 handle = u1 · u2

@@ -1,4 +1,4 @@
-pub mod Forms
+pub mod InstructionForms
 pub mod Instructions
 pub mod Opcodes
-pub mod Operands
+pub mod OperandFormats

@@ -1,4 +1,4 @@
-pub mod Frames
-pub mod Full
-pub mod Spelled
-pub mod Steps
+pub mod StackMapFormat
+pub mod ExpandedFrames
+pub mod StackMapLaws
+pub mod FrameExpansion

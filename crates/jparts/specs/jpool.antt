@@ -1,7 +1,7 @@
-pub mod Adding
+pub mod EntryLayouts
 pub mod Descriptors
-pub mod Entries
-pub mod Names
-pub mod Pieces
-pub mod Pools
-pub mod Uses
+pub mod PoolEntries
+pub mod ClassNames
+pub mod FieldTypes
+pub mod ConstantPools
+pub mod PoolTextUses

@@ -1,20 +1,18 @@
 //! Names, descriptors (JVMS 4.2, 4.3) and the constant pool (JVMS 4.4): `read_pool` and `write_pool`, look-ups by index,
 //! `read_descriptor`.
 //!
-//! - `Entries`: the entries by their tags, and what stands at each index.
-//! - `Pools`: look-ups, what entries may name, the pool's format and first fault.
-//! - `Names`: class names.
+//! - `PoolEntries`: the entries by their tags, and what stands at each index.
+//! - `ConstantPools`: look-ups, what entries may name, the pool's format and first fault.
+//! - `ClassNames`: class names.
 //! - `Descriptors`: field and method descriptors, written and read.
-//! - `Pieces`: a field type in a text as the value that it stands for.
-//! - `Uses`: what a text of the pool may be used as (each is judged once, however many entries name it).
-//! - `Adding`: which entries may be added to a pool, and how they stand in it.
+//! - `FieldTypes`: a field type in a text as the value that it stands for.
+//! - `PoolTextUses`: what a text of the pool may be used as (each is judged once, however many entries name it).
+//! - `EntryLayouts`: which entries may be added to a pool, and how they stand in it.
 //!
 //! Proved: `read_pool` reads exactly the pools that bytes spell and names the first fault with its place; `write_pool` writes the
 //! spelling; `pool_laws`: bytes begin with one pool at most, a pool has one spelling, and bytes begin with a pool exactly where reading
 //! finds no fault; `read_descriptor` and the tests of names and descriptors are the grammar; `Pool::push` puts an entry behind the
 //! others, and leaves the pool as it was at every error; copies are equal. New entries are numbered in `jadder`.
-//!
-//! Rooms of class files, linking, checking, the machine's definition, the machine and moving may name it, and tests.
 
 mod coding;
 mod descriptor;

@@ -11,11 +11,11 @@ use Rattle.jperm.specs.declared.permission.Permission.TheVariants.{All, Basic, P
 use Rattle.jperm.specs.declared.path.FilePath.{FilePath}
 use Rattle.jperm.specs.declared.path.FilePath.TheVariants.{AllFiles, Below, Children, Exact}
 use Rattle.jperm.specs.Actions.{has_all}
-use Rattle.jperm.specs.Names.{name_covers, is_wildcard, goes_on, but_last}
-use Rattle.jperm.specs.Paths.{path_covers, is_below}
+use Rattle.jperm.specs.NameCoverage.{name_covers, is_wildcard, goes_on, but_last}
+use Rattle.jperm.specs.PathCoverage.{path_covers, is_below}
 use Rattle.jperm.specs.Permissions.{implies, covers, united, gives, stands_alone, one_implies, together, same_class, asks_nothing, is_unresolved}
 use Rattle.jperm.proofs.Bits.{has_all-trans, has_all-left, has_all-right, has_all-both, has_all-none, has_all-itself, or_assoc, or-zero, zero-or, zero-and}
-use Rattle.jperm.proofs.Same.{and_left, and_right, and_both, text_itself, class_itself}
+use Rattle.jperm.proofs.PermissionEquality.{and_left, and_right, and_both, text_itself, class_itself}
 
 pub or_left : (a b : Bool) → a ≡ true → (a || b) ≡ true
 or_left true b h = refl

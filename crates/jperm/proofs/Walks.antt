@@ -6,13 +6,13 @@ use Rattle.std.proofs.Math.Seq.{take-length}
 use Rattle.std.proofs.lemmas.Bool.{ltb-true, ltb-false}
 use Rattle.std.proofs.lemmas.List.Splits.{slice_split_first, slice_split_none, length-slice_split}
 use Rattle.std.proofs.lemmas.List.Sums.{prefix_len_passes, fold-append}
-use Rattle.jground.specs.jbase.Each.{each_some, put_front}
+use Rattle.jground.specs.jbase.ListMaps.{each_some, put_front}
 use Rattle.jperm.specs.declared.action.Action.{Action}
 use Rattle.jperm.specs.Actions.{bit}
-use Rattle.jperm.specs.Paths.{slash}
-use Rattle.jperm.specs.Pieces.{pieces, pieces_if}
-use Rattle.jperm.specs.Absolute.{is_absolute}
-use Rattle.jperm.specs.Written.{next, names_of, path_of_names}
+use Rattle.jperm.specs.PathCoverage.{slash}
+use Rattle.jperm.specs.TextPieces.{pieces, pieces_if}
+use Rattle.jperm.specs.AbsolutePaths.{is_absolute}
+use Rattle.jperm.specs.WrittenPaths.{next, names_of, path_of_names}
 
 -- how much is left to go along, where what is left may be there
 abbrev pub left_of : Option (List ℕ) → ℕ

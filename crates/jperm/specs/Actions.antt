@@ -4,9 +4,9 @@ use Rattle.std.specs.List.{find}
 use Rattle.std.specs.Option.{option_map}
 use Rattle.std.specs.Str.{byte}
 use Rattle.std.specs.Char.{is_ascii_whitespace}
-use Rattle.jground.specs.jbase.Each.{each_some}
+use Rattle.jground.specs.jbase.ListMaps.{each_some}
 use Rattle.jground.specs.jtext.Texts.{same_ignoring_case}
-use Rattle.jperm.specs.Pieces.{pieces}
+use Rattle.jperm.specs.TextPieces.{pieces}
 use Rattle.jperm.specs.declared.action.Action.{Action}
 use Rattle.jperm.specs.declared.action.Action.TheVariants.{Read, Write, Execute, Delete, Readlink}
 

@@ -7,8 +7,8 @@ use Rattle.jperm.specs.declared.permission.Permission.TheVariants.{All, Basic, P
 use Rattle.jperm.specs.declared.permission.BasicClass.{BasicClass}
 use Rattle.jperm.specs.declared.permission.BasicClass.TheVariants.{Runtime, Security}
 use Rattle.jperm.specs.Actions.{has_all}
-use Rattle.jperm.specs.Names.{name_covers}
-use Rattle.jperm.specs.Paths.{path_covers, same_path}
+use Rattle.jperm.specs.NameCoverage.{name_covers}
+use Rattle.jperm.specs.PathCoverage.{path_covers, same_path}
 
 abbrev pub same_class : BasicClass → BasicClass → Bool
 same_class Runtime Runtime = true

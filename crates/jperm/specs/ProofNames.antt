@@ -1,14 +1,14 @@
 -- Names by which proofs and the contracts of inner functions call what the definitions say in place. What `javasec` and `dispatch` promise
 -- reaches none of them.
 use Rattle.std.specs.Prelude.{Option, List, ℕ, Result, Ok}
-use Rattle.jground.specs.jbase.Stops.{◌>>=◌}
+use Rattle.jground.specs.jbase.MemoryFailures.{◌>>=◌}
 use Rattle.jperm.specs.declared.permission.BasicClass.{BasicClass}
 use Rattle.jperm.specs.declared.permission.Permission.{Permission}
 use Rattle.jperm.specs.declared.making.PermError.{PermError}
-use Rattle.jperm.specs.Made.{filled}
+use Rattle.jperm.specs.PermissionConstructors.{filled}
 use Rattle.jperm.specs.declared.permission.Permission.TheVariants.{Basic}
 
--- ---- of Made
+-- ---- of PermissionConstructors
 
 -- a permission that has a name and no actions
 abbrev pub made_basic : BasicClass → Option (List ℕ) → Result Permission PermError

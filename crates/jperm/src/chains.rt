@@ -1,8 +1,8 @@
 ghost use Rattle.std.specs.Prelude.{◌≡◌, ◌<◌, [], ◌∷◌, ◌++◌, Some, IfOk, OnOk, fold, length, slice_set};
-ghost use Rattle.jperm.specs.Chains.{AreChains, linked, looked, looked_behind, newest, slot};
-ghost use Rattle.jperm.specs.Keys.{class_kind, key_of, keys_of, kind_keys, named_key, named_keys, stepped, text_key};
+ghost use Rattle.jperm.specs.PermissionChains.{AreChains, linked, looked, looked_behind, newest, slot};
+ghost use Rattle.jperm.specs.PermissionKeys.{class_kind, key_of, keys_of, kind_keys, named_key, named_keys, stepped, text_key};
 
-use crate::found::Found;
+use crate::coverage::Coverage;
 use crate::name::{DOT, is_wildcard};
 use crate::permission::{BasicClass, Permission};
 use jground::jbase::Seq;
@@ -30,7 +30,7 @@ pub struct Chains {
 // ---- keys
 
 /// The key of a text with one more unit.
-#[tactic(auto, unfolding(crate::specs::Keys::stepped))]
+#[tactic(auto, unfolding(crate::specs::PermissionKeys::stepped))]
 fn stepped(key: u64, unit: u16) -> u64
     ensures { result ≡ stepped key unit }
 {
@@ -138,7 +138,7 @@ fn slot_count(entries: usize) -> usize
 }
 
 /// The chains of a list's entries.
-#[tactic(auto, using(crate::proofs::Chaining::none_stand, crate::proofs::Chaining::all_stand))]
+#[tactic(auto, using(crate::proofs::KeyChains::none_stand, crate::proofs::KeyChains::all_stand))]
 pub fn chains_of(alloc: Global, list: &[Permission]) -> Result<Chains, AllocError>
     ensures { IfOk result (λ chains. AreChains list.now chains) }
 {
@@ -154,8 +154,8 @@ pub fn chains_of(alloc: Global, list: &[Permission]) -> Result<Chains, AllocErro
 // ---- going along them
 
 /// Looks at the entries in the chain of a key.
-#[tactic(auto, using(crate::proofs::Chaining::chain_at, crate::proofs::Chaining::along_none, crate::proofs::Chaining::along_end))]
-fn look(chains: &Chains, list: &[Permission], key: u64, asked: &Permission, found: &mut Found)
+#[tactic(auto, using(crate::proofs::KeyChains::chain_at, crate::proofs::KeyChains::along_none, crate::proofs::KeyChains::along_end))]
+fn look(chains: &Chains, list: &[Permission], key: u64, asked: &Permission, found: &mut Coverage)
     requires { 0 < length chains.now.heads }
     ensures { found.new ≡ looked list.now chains.now asked.now found.old key }
 {
@@ -177,7 +177,7 @@ fn look_behind(
     key: u64,
     unit: u16,
     asked: &Permission,
-    found: &mut Found,
+    found: &mut Coverage,
 )
     requires { 0 < length chains.now.heads }
     ensures { found.new ≡ looked_behind list.now chains.now asked.now found.old key unit }
@@ -188,14 +188,14 @@ fn look_behind(
 }
 
 /// Looks at all of a kind whose names can cover a name.
-#[tactic(auto, using(crate::proofs::Keyed::keys_next), unfolding(crate::specs::Keys::keys_from))]
+#[tactic(auto, using(crate::proofs::NameKeys::keys_next), unfolding(crate::specs::PermissionKeys::keys_from))]
 fn look_named(
     chains: &Chains,
     list: &[Permission],
     kind: u64,
     name: &[u16],
     asked: &Permission,
-    found: &mut Found,
+    found: &mut Coverage,
 )
     requires { 0 < length chains.now.heads }
     ensures { found.new ≡ fold (looked list.now chains.now asked.now) found.old (named_keys kind name.now) }
@@ -210,7 +210,7 @@ fn look_named(
 }
 
 /// Looks at all of the kind of an asked permission that can cover it.
-fn look_kind(chains: &Chains, list: &[Permission], asked: &Permission, found: &mut Found)
+fn look_kind(chains: &Chains, list: &[Permission], asked: &Permission, found: &mut Coverage)
     requires { 0 < length chains.now.heads }
     ensures { found.new ≡ fold (looked list.now chains.now asked.now) found.old (kind_keys asked.now) }
 {
@@ -234,7 +234,7 @@ fn look_kind(chains: &Chains, list: &[Permission], asked: &Permission, found: &m
 }
 
 /// Looks at all that can cover an asked permission.
-pub fn look_up(chains: &Chains, list: &[Permission], asked: &Permission, found: &mut Found)
+pub fn look_up(chains: &Chains, list: &[Permission], asked: &Permission, found: &mut Coverage)
     requires { 0 < length chains.now.heads }
     ensures { found.new ≡ fold (looked list.now chains.now asked.now) found.old (keys_of asked.now) }
 {

@@ -2,7 +2,7 @@ ghost use Rattle.std.specs.Prelude.{◌≡◌, IfOk};
 ghost use Rattle.jperm.specs.Permissions.{covers};
 
 use crate::chains::{Chains, chains_of, look_up};
-use crate::found::Found;
+use crate::coverage::Coverage;
 use crate::permission::Permission;
 use jground::jbase::Seq;
 use std::alloc::{AllocError, Global};
@@ -21,7 +21,7 @@ pub struct Indexed {
 impl Model for Indexed {
     ghost use Rattle.std.specs.Prelude.{List};
     ghost use Rattle.jperm.specs.declared.permission.Permission.{Permission};
-    ghost use Rattle.jperm.specs.Chains.{AreChains};
+    ghost use Rattle.jperm.specs.PermissionChains.{AreChains};
 
     ghost Value = { List Permission };
 
@@ -47,11 +47,11 @@ impl Indexed {
     }
 
     /// Whether the list covers the asked permission, as `covers` says. It takes no memory.
-    #[tactic(auto, using(crate::proofs::Looked::answered))]
+    #[tactic(auto, using(crate::proofs::ChainLookup::answered))]
     pub fn covers(&self, asked: &Permission) -> bool
         ensures { result ≡ covers self.now asked.now }
     {
-        let mut found = Found::none();
+        let mut found = Coverage::none();
         look_up(&self.chains, self.list.as_slice(), asked, &mut found);
         found.suffices(asked)
     }

@@ -2,9 +2,9 @@ ghost use Rattle.std.specs.Prelude.{◌≡◌, ◌↔◌, ℕ, List, Option, Ok,
 ghost use Rattle.std.specs.List.{Contains, flat_map};
 ghost use Rattle.jperm.specs.declared.permission.Permission.{Permission};
 ghost use Rattle.jperm.specs.declared.making.PermClass.{PermClass};
-ghost use Rattle.jperm.specs.Made.{made};
+ghost use Rattle.jperm.specs.PermissionConstructors.{made};
 ghost use Rattle.jperm.specs.Permissions.{equal, implies, covers, united, gives, stands_alone, asks_nothing, is_unresolved};
-ghost use Rattle.jperm.specs.Texts.{parts, text_of};
+ghost use Rattle.jperm.specs.PermissionTexts.{parts, text_of};
 
 use crate::text::PARTS;
 

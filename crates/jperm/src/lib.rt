@@ -1,13 +1,13 @@
 //! Permissions: `make`, `implies`, `covers`, `equal`, `text`, `copy`, and PERM in parts for writers that take no memory. A permission's
 //! actions and paths are types that hold no other values than `make` gives.
 //!
-//! - `Names`, `Paths`, `Actions`: when a name and a path cover another; the actions, their words, and what a text of them gives.
-//! - `Absolute`, `Written`, `Pieces`: what path a written name gives in a directory.
+//! - `NameCoverage`, `PathCoverage`, `Actions`: when a name and a path cover another; the actions, their words, and what a text of them gives.
+//! - `AbsolutePaths`, `WrittenPaths`, `TextPieces`: what path a written name gives in a directory.
 //! - `Permissions`: implies, covers, equal.
-//! - `Made`: what a class makes of a name and actions, and which fault comes first.
-//! - `Texts`: the text of a permission, whole and in parts.
-//! - `Keys`, `Chains`: a number for each permission, by its kind and name, and the chains in which the entries of a list stand by these
-//!   numbers, so that a check looks at few of them.
+//! - `PermissionConstructors`: what a class makes of a name and actions, and which fault comes first.
+//! - `PermissionTexts`: the text of a permission, whole and in parts.
+//! - `PermissionKeys`, `PermissionChains`: a number for each permission, by its kind and name, and the chains in which the entries of a list
+//!   stand by these numbers, so that a check looks at few of them.
 //!
 //! Proved: each call is its definition; `permission_laws`: equality is equality itself, each but an unresolved permission implies
 //! itself, and implication is transitive; `covers_laws`: a list covers what a member implies and all that a covered permission implies,
@@ -15,13 +15,11 @@
 //! no permission that is made asks for no actions.
 //!
 //! `ProofNames` are names by which proofs and contracts of inner functions call what the definitions say in place.
-//!
-//! Rooms of permissions and policies, the machine's definition, the machine, jobs and the top may name it, and tests.
 #![tactic(auto)]
 
 mod action;
 mod chains;
-mod found;
+mod coverage;
 mod indexed;
 mod laws;
 mod making;

@@ -1,9 +1,9 @@
 ghost use Rattle.std.specs.Prelude.{◌≡◌, MatchResult};
 ghost use Rattle.std.specs.Option.{option_copied};
 ghost use Rattle.jperm.specs.declared.making.PermError.TheVariants.{Memory};
-ghost use Rattle.jperm.specs.Made.{made, made_property, made_file, filled, wanted, IsMade};
+ghost use Rattle.jperm.specs.PermissionConstructors.{made, made_property, made_file, filled, wanted, IsMade};
 ghost use Rattle.jperm.specs.ProofNames.{made_basic};
-ghost use Rattle.jperm.specs.Texts.{text_of_class, class_named};
+ghost use Rattle.jperm.specs.PermissionTexts.{text_of_class, class_named};
 
 use crate::action::{Action, FILE_ACTIONS, PROPERTY_ACTIONS, actions_of};
 use crate::permission::{BasicClass, Permission};

@@ -1,5 +1,5 @@
 ghost use Rattle.std.specs.Prelude.{◌≡◌, ◌≤◌, IsTrue, length};
-ghost use Rattle.jperm.specs.Names.{name_covers, is_wildcard};
+ghost use Rattle.jperm.specs.NameCoverage.{name_covers, is_wildcard};
 
 pub const DOT: u16 = b'.' as u16;
 

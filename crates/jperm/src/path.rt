@@ -1,8 +1,8 @@
 ghost use Rattle.std.specs.Prelude.{◌≡◌, ◌≤◌, ◌||◌, ◌++◌, IfOk, IsTrue, length, codes};
 ghost use Rattle.std.specs.Str.{bytes_eq};
-ghost use Rattle.jperm.specs.Absolute.{is_absolute};
-ghost use Rattle.jperm.specs.Names.{goes_on};
-ghost use Rattle.jperm.specs.Paths.{path_covers, same_path, is_below, is_in, inside};
+ghost use Rattle.jperm.specs.AbsolutePaths.{is_absolute};
+ghost use Rattle.jperm.specs.NameCoverage.{goes_on};
+ghost use Rattle.jperm.specs.PathCoverage.{path_covers, same_path, is_below, is_in, inside};
 
 use jground::jtext::Units;
 use std::alloc::{AllocError, Global};
@@ -19,7 +19,7 @@ pub struct AbsolutePath {
 
 impl Model for AbsolutePath {
     ghost use Rattle.std.specs.Prelude.{ℕ, List, IsTrue};
-    ghost use Rattle.jperm.specs.Absolute.{is_absolute};
+    ghost use Rattle.jperm.specs.AbsolutePaths.{is_absolute};
 
     ghost Value = { List ℕ };
 
@@ -172,7 +172,7 @@ fn is_below(dir: &[u16], path: &[u16]) -> bool
 }
 
 /// Whether a path goes on behind a directory and a slash.
-#[tactic(auto, using(crate::proofs::Starts::behind))]
+#[tactic(auto, using(crate::proofs::PathPrefixes::behind))]
 fn is_behind_slash(dir: &[u16], path: &[u16]) -> bool
     ensures { result ≡ goes_on (dir.now ++ codes "/") path.now }
 {

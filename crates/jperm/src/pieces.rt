@@ -1,6 +1,6 @@
 ghost use Rattle.std.specs.Prelude.{◌≡◌, ◌<◌, ◌∷◌, IfSome, length, nat_eq, position};
 ghost use Rattle.std.specs.Option.{option_copied};
-ghost use Rattle.jperm.specs.Pieces.{pieces, pieces_if};
+ghost use Rattle.jperm.specs.TextPieces.{pieces, pieces_if};
 
 /// The first piece of a text that is split at a unit, and what stands behind that unit, if it is there.
 #[tactic(auto, using(crate::proofs::Walks::first_pieces))]

@@ -2,7 +2,7 @@ ghost use Rattle.std.specs.Prelude.{◌≡◌, [], ◌++◌, ◌==◌, not, fals
 ghost use Rattle.std.specs.List.{list_any};
 ghost use Rattle.std.specs.Option.{option_copied, is_some};
 ghost use Rattle.jperm.specs.Actions.{bit, word, has_all, file_actions};
-ghost use Rattle.jperm.specs.Texts.{class_name, name_of, actions_text, text_of, action_parts, word_parts, between, parts};
+ghost use Rattle.jperm.specs.PermissionTexts.{class_name, name_of, actions_text, text_of, action_parts, word_parts, between, parts};
 
 use crate::action::{Action, FILE_ACTIONS, has_all};
 use crate::making::PermClass;
@@ -60,7 +60,7 @@ impl Permission {
     }
 
     /// Whether the permission has actions to write.
-    #[tactic(auto, using(crate::proofs::Parts::words))]
+    #[tactic(auto, using(crate::proofs::TextParts::words))]
     fn has_actions(&self) -> bool
         ensures { result ≡ not (length (actions_text self.now) == 0) }
     {
@@ -106,7 +106,7 @@ impl Permission {
     }
 
     /// The permission's text: its class, its name and its actions, each where it has one, in quotes.
-    #[tactic(auto, using(crate::proofs::Parts::going))]
+    #[tactic(auto, using(crate::proofs::TextParts::going))]
     pub fn text(&self, alloc: Global) -> Result<Units, AllocError>
         ensures { IfOk result (λ t. t ≡ text_of self.now) }
     {

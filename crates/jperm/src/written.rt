@@ -1,8 +1,8 @@
 ghost use Rattle.std.specs.Prelude.{◌≡◌, ◌≤◌, ◌∷◌, [], IfOk, OnOk, IsTrue, length, fold, if◌then◌else◌};
-ghost use Rattle.jperm.specs.Absolute.{is_absolute};
-ghost use Rattle.jperm.specs.Written.{path_of, absolute, path_of_names, has_sign, names_of, next};
-ghost use Rattle.jperm.specs.Paths.{slash};
-ghost use Rattle.jperm.specs.Pieces.{pieces};
+ghost use Rattle.jperm.specs.AbsolutePaths.{is_absolute};
+ghost use Rattle.jperm.specs.WrittenPaths.{path_of, absolute, path_of_names, has_sign, names_of, next};
+ghost use Rattle.jperm.specs.PathCoverage.{slash};
+ghost use Rattle.jperm.specs.TextPieces.{pieces};
 
 use crate::path::{AbsolutePath, FilePath};
 use crate::pieces::first_piece;

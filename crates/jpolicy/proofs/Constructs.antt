@@ -4,7 +4,7 @@ use Rattle.std.specs.Prelude.{is_some}
 use Rattle.std.specs.Str.{byte}
 use Rattle.std.proofs.lemmas.Bool.{cases_Bool, eqb-true}
 use Rattle.std.proofs.lemmas.List.{append-nil}
-use Rattle.jground.specs.jbase.Stops.{◌>>=◌}
+use Rattle.jground.specs.jbase.MemoryFailures.{◌>>=◌}
 use Rattle.jpolicy.specs.declared.token.Token.{Token}
 use Rattle.jpolicy.specs.declared.token.Token.TheVariants.{Word, Text, Mark, Bad}
 use Rattle.jpolicy.specs.declared.token.Placed.{Placed}
@@ -19,16 +19,16 @@ use Rattle.jpolicy.specs.declared.stated.Stated.{Stated}
 use Rattle.jpolicy.specs.declared.stated.Stated.TheVariants.{Absent}
 use Rattle.jpolicy.specs.declared.clauses.Clauses.{Clauses}
 use Rattle.jpolicy.specs.Expansion.{Properties}
-use Rattle.jpolicy.specs.Walks.{Ends, none_left, walk}
+use Rattle.jpolicy.specs.ListWalks.{Ends, none_left, walk}
 use Rattle.jpolicy.specs.Productions as read
 use Rattle.jpolicy.specs.ProofNames
 use Rattle.jpolicy.specs.Productions.{Answer, next, behind, is_mark, is_text, is_keyword, names_principal, is_absent, given, entry_of, with_code_base, with_signers, with_principal, grant_of, with_one, no_clauses}
 use Rattle.jpolicy.specs.ProofNames.{is_word, skip_comma}
 use Rattle.jpolicy.specs.Grammar.{Grammar, Nothing, Marked, Keyed, Worded, Texted, ◌▹◌, Either, Only, Comma, Signers, BehindActions, BehindComma, Named, BehindName, Entry, Entries, PrincipalName, Principal, Clause, AllClauses, OneGrant, Another, Others, Keystore, Password, Item, Items, Begins, NotAllowed, Says, emptied}
-use Rattle.jpolicy.proofs.Walking.{bind_ok, walk_ends}
-use Rattle.jpolicy.proofs.Firm.{Firm, Seen, Alike, Said, plain, first, bind_err, picked, shrinks, and_false, same_next, firm_same, firm_wide, firm_if, firm_next, firm_none}
-use Rattle.jpolicy.proofs.Exact.{Law, Complete, Any, Not, Steps, law_none, law_one, law_word, law_text, law_then, law_first, law_map, law_next, law_if, law_only, law_once, law_last, law_many, front_of, steps_go}
-use Rattle.jpolicy.proofs.Fronts.{seen_mark, seen_word, seen_text, seen_name, seen_keyword, marks_apart, mark_no_keyword, mark_no_text, mark_no_word, keyword_no_mark, keyword_no_text, keywords_apart, begins, begins_so, begins_some, deeper, deeper_some, text_begins, nothing_first, next_apart, worded}
+use Rattle.jpolicy.proofs.ListWalks.{bind_ok, walk_ends}
+use Rattle.jpolicy.proofs.FirmParsers.{Firm, Seen, Alike, Said, plain, first, bind_err, picked, shrinks, and_false, same_next, firm_same, firm_wide, firm_if, firm_next, firm_none}
+use Rattle.jpolicy.proofs.ExactParsers.{Law, Complete, Any, Not, Steps, law_none, law_one, law_word, law_text, law_then, law_first, law_map, law_next, law_if, law_only, law_once, law_last, law_many, front_of, steps_go}
+use Rattle.jpolicy.proofs.FirstTokens.{seen_mark, seen_word, seen_text, seen_name, seen_keyword, marks_apart, mark_no_keyword, mark_no_text, mark_no_word, keyword_no_mark, keyword_no_text, keywords_apart, begins, begins_so, begins_some, deeper, deeper_some, text_begins, nothing_first, next_apart, worded}
 
 abbrev comma : Token → Bool
 comma = is_mark (byte ",")

@@ -6,9 +6,9 @@ use Rattle.std.specs.Str.Lossy.{utf8_valid_len}
 use Rattle.std.proofs.lemmas.Str.{IsUtf8-from_is_utf8, is_utf8-from_IsUtf8}
 use Rattle.jground.specs.declared.jformat.error.Fault.{Fault}
 use Rattle.jpolicy.specs.declared.grant.Grant.{Grant}
-use Rattle.jground.specs.declared.jbase.stop.Stop.{Stop}
-use Rattle.jground.specs.declared.jbase.stop.Stop.TheVariants as stops
-use Rattle.jground.specs.jbase.Stops.{Gives}
+use Rattle.jground.specs.declared.jbase.fault_or_memory.FaultOrMemory.{FaultOrMemory}
+use Rattle.jground.specs.declared.jbase.fault_or_memory.FaultOrMemory.TheVariants as stops
+use Rattle.jground.specs.jbase.MemoryFailures.{Gives}
 use Rattle.jground.specs.declared.jformat.error.At.{At}
 use Rattle.jpolicy.specs.declared.fault.PolicyFault.{PolicyFault}
 use Rattle.jpolicy.specs.declared.fault.PolicyFault.TheVariants.{NotUtf8, Syntax, SelfExpansion}
@@ -28,7 +28,7 @@ read_by : (p : Properties) (bytes : List ℕ) (gs : List Grant) (b : Bool) → i
 read_by p bytes gs true is e = (IsUtf8-from_is_utf8 bytes is, policy_sound p (tokens (chars bytes)) gs (outward_ok (chars bytes) (policy_at p (tokens (chars bytes))) gs e))
 read_by p bytes gs false is e = absurd cc
 
-pub found_so : (p : Properties) (bytes : List ℕ) (result : Result (List Grant) (Stop (At PolicyFault))) → Gives (λ x. x) result (policy p bytes) → IfOk result (λ gs. IsPolicy p bytes gs)
+pub found_so : (p : Properties) (bytes : List ℕ) (result : Result (List Grant) (FaultOrMemory (At PolicyFault))) → Gives (λ x. x) result (policy p bytes) → IfOk result (λ gs. IsPolicy p bytes gs)
 unfolding policy
 found_so p bytes (Ok gs) h = read_by p bytes gs (is_utf8 bytes) refl h
 found_so p bytes (Err e) h = tt
@@ -37,7 +37,7 @@ policy_is : (p : Properties) (bytes : List ℕ) (gs : List Grant) → IsPolicy p
 unfolding policy
 policy_is p bytes gs d = rw (is_utf8-from_IsUtf8 bytes d.0, policy_complete p (tokens (chars bytes)) gs d.1) refl
 
-pub only_so : (p : Properties) (bytes : List ℕ) (result : Result (List Grant) (Stop (At PolicyFault))) → Gives (λ x. x) result (policy p bytes) → (gs : List Grant) → IsPolicy p bytes gs → Gives (λ x. x) result (Ok gs)
+pub only_so : (p : Properties) (bytes : List ℕ) (result : Result (List Grant) (FaultOrMemory (At PolicyFault))) → Gives (λ x. x) result (policy p bytes) → (gs : List Grant) → IsPolicy p bytes gs → Gives (λ x. x) result (Ok gs)
 only_so p bytes result h gs d = subst (λ (v : Result (List Grant) (At PolicyFault)). Gives (λ x. x) result v) (policy_is p bytes gs d) h
 
 -- ---- which fault it is
@@ -66,7 +66,7 @@ fault_by p bytes a false is e =
     let same : record { at = utf8_valid_len bytes; kind = NotUtf8 } ≡ a = cc in
     subst (λ (d : At PolicyFault). FaultIn p bytes d.at d.kind) same (λ utf8. (let holds = is_utf8-from_IsUtf8 bytes utf8 in absurd cc), refl)
 
-pub first_so : (p : Properties) (bytes : List ℕ) (result : Result (List Grant) (Stop (At PolicyFault))) → Gives (λ x. x) result (policy p bytes) → IfErr result (λ e. IsFault p bytes e)
+pub first_so : (p : Properties) (bytes : List ℕ) (result : Result (List Grant) (FaultOrMemory (At PolicyFault))) → Gives (λ x. x) result (policy p bytes) → IfErr result (λ e. IsFault p bytes e)
 unfolding policy
 first_so p bytes (Ok gs) h = tt
 first_so p bytes (Err (stops.Fault a)) h = fault_by p bytes a (is_utf8 bytes) refl h

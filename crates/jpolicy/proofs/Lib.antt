@@ -1,9 +1,9 @@
 pub mod Constructs
-pub mod Exact
+pub mod ExactParsers
 pub mod FirstTest
-pub mod Fronts
+pub mod FirstTokens
 pub mod Grounds
-pub mod Places
-pub mod Firm
-pub mod Shrinking
-pub mod Walking
+pub mod CharacterOffsets
+pub mod FirmParsers
+pub mod LexerProgress
+pub mod ListWalks

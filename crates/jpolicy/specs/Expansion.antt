@@ -4,9 +4,9 @@ use Rattle.std.specs.List.{starts_with}
 use Rattle.std.specs.Option.{ok_or}
 use Rattle.std.specs.Result.{result_ok}
 use Rattle.std.specs.Str.{bytes_eq, byte}
-use Rattle.jground.specs.jbase.Stops.{◌>>=◌}
+use Rattle.jground.specs.jbase.MemoryFailures.{◌>>=◌}
 use Rattle.jpolicy.specs.Strings.{Part}
-use Rattle.jpolicy.specs.Walks.{none_left, walk}
+use Rattle.jpolicy.specs.ListWalks.{none_left, walk}
 
 -- names and values of properties
 abbrev pub Properties : Type 0

@@ -5,6 +5,6 @@ pub mod Policies
 pub mod Productions
 pub mod Strings
 pub mod Tokens
-pub mod WalkLaws
-pub mod Walks
+pub mod ReaderTermination
+pub mod ListWalks
 pub mod ProofNames

@@ -2,8 +2,8 @@
 use Rattle.std.specs.Prelude.{◌≡◌, ℕ, ◌-◌, List, [], ◌∷◌, ◌++◌, length, take, Result, Ok, Err, if◌then◌else◌}
 use Rattle.std.specs.Str.{IsUtf8, chars, encode_utf8_all, is_utf8}
 use Rattle.std.specs.Str.Lossy.{utf8_valid_len}
-use Rattle.jground.specs.declared.jbase.stop.Stop.{Stop}
-use Rattle.jground.specs.declared.jbase.stop.Stop.TheVariants as stops
+use Rattle.jground.specs.declared.jbase.fault_or_memory.FaultOrMemory.{FaultOrMemory}
+use Rattle.jground.specs.declared.jbase.fault_or_memory.FaultOrMemory.TheVariants as stops
 use Rattle.jground.specs.declared.jformat.error.At.{At}
 use Rattle.jground.specs.declared.jformat.error.Fault.{Fault}
 use Rattle.jpolicy.specs.declared.fault.PolicyFault.{PolicyFault}
@@ -52,6 +52,6 @@ FaultIn properties bytes at NotUtf8 = ¬ (IsUtf8 bytes) × (at ≡ utf8_valid_le
 FaultIn properties bytes at kind = IsUtf8 bytes × IsFirst properties (chars bytes) at kind
 
 -- a fault of the bytes; want of memory says nothing of them
-abbrev pub IsFault : Properties → List ℕ → Stop (At PolicyFault) → Type 0
+abbrev pub IsFault : Properties → List ℕ → FaultOrMemory (At PolicyFault) → Type 0
 IsFault properties bytes (stops.Fault d) = FaultIn properties bytes d.at d.kind
 IsFault properties bytes stops.Memory = Unit {0}

@@ -2,7 +2,7 @@
 -- it, or the first token that isn't allowed.
 use Rattle.std.specs.Prelude.{ℕ, Bool, true, false, not, ◌&&◌, ◌||◌, ◌==◌, List, [], ◌∷◌, ◌++◌, length, Option, Some, None, is_some, Result, Ok, Err, if◌then◌else◌, codes}
 use Rattle.std.specs.Str.{byte}
-use Rattle.jground.specs.jbase.Stops.{◌>>=◌}
+use Rattle.jground.specs.jbase.MemoryFailures.{◌>>=◌}
 use Rattle.jground.specs.declared.jformat.error.Fault.{Fault}
 use Rattle.jground.specs.jtext.Texts.{same_ignoring_case}
 use Rattle.jpolicy.specs.declared.token.Token.{Token}
@@ -18,7 +18,7 @@ use Rattle.jpolicy.specs.declared.stated.Stated.{Stated}
 use Rattle.jpolicy.specs.declared.stated.Stated.TheVariants.{Absent, Missing, Given}
 use Rattle.jpolicy.specs.declared.clauses.Clauses.{Clauses}
 use Rattle.jpolicy.specs.Expansion.{Properties, expanded, expands_itself}
-use Rattle.jpolicy.specs.Walks.{none_left, walk}
+use Rattle.jpolicy.specs.ListWalks.{none_left, walk}
 
 -- what stands at the front and the tokens behind it, or a fault
 abbrev pub Answer : Type 0 → Type 0

@@ -2,7 +2,7 @@
 -- reaches none of them.
 use Rattle.std.specs.Prelude.{◌==◌, ℕ, Bool, true, false, List, Ok, if◌then◌else◌, Err}
 use Rattle.std.specs.Str.{byte}
-use Rattle.jground.specs.jbase.Stops.{◌>>=◌}
+use Rattle.jground.specs.jbase.MemoryFailures.{◌>>=◌}
 use Rattle.jpolicy.specs.declared.token.Token.{Token}
 use Rattle.jpolicy.specs.declared.token.Token.TheVariants.{Word, Text}
 use Rattle.jpolicy.specs.Expansion.{Properties}

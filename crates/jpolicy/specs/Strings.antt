@@ -2,9 +2,9 @@
 use Rattle.std.specs.Prelude.{ℕ, Bool, false, ◌||◌, ◌==◌, List, [], ◌∷◌, ◌++◌, length, Result, Ok, Err, if◌then◌else◌}
 use Rattle.std.specs.Str.{byte}
 use Rattle.std.specs.Char.Escape.{encode_utf16}
-use Rattle.jground.specs.jbase.Stops.{◌>>=◌}
+use Rattle.jground.specs.jbase.MemoryFailures.{◌>>=◌}
 use Rattle.jpolicy.specs.Characters.{ends_line, is_octal}
-use Rattle.jpolicy.specs.Walks.{walk}
+use Rattle.jpolicy.specs.ListWalks.{walk}
 
 -- a value and the characters behind it; where none stands there, there is no more to say
 abbrev pub Part : Type 0 → Type 0

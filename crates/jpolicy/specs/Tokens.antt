@@ -8,7 +8,7 @@ use Rattle.jpolicy.specs.declared.token.Token.TheVariants.{Word, Text, Mark, Bad
 use Rattle.jpolicy.specs.declared.token.Placed.{Placed}
 use Rattle.jpolicy.specs.Characters.{is_mark, is_word_character, ends_line, is_gap}
 use Rattle.jpolicy.specs.Strings.{Part, string_at}
-use Rattle.jpolicy.specs.Walks.{none_left, walk}
+use Rattle.jpolicy.specs.ListWalks.{none_left, walk}
 
 -- a token, or none where only tokens are separated, and the characters behind it
 abbrev pub Lexeme : Type 0

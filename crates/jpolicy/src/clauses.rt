@@ -1,6 +1,6 @@
 ghost use Rattle.std.specs.Prelude.{◌≡◌};
 ghost use Rattle.std.specs.Str.{byte};
-ghost use Rattle.jground.specs.jbase.Stops.{Gives};
+ghost use Rattle.jground.specs.jbase.MemoryFailures.{Gives};
 ghost use Rattle.jpolicy.specs.Productions.{clause_at, clauses_at, is_mark, next, no_clauses, one_clause};
 ghost use Rattle.jpolicy.specs.Productions.{principal_at, principal_name_at, with_code_base, with_principal, with_signers};
 ghost use Rattle.jpolicy.specs.ProofNames.{skip_comma};

@@ -1,6 +1,6 @@
 ghost use Rattle.std.specs.Prelude.{◌≡◌};
 ghost use Rattle.std.specs.Str.{byte};
-ghost use Rattle.jground.specs.jbase.Stops.{Gives};
+ghost use Rattle.jground.specs.jbase.MemoryFailures.{Gives};
 ghost use Rattle.jpolicy.specs.Productions.{behind_actions, behind_comma, behind_name, entries_at, entry_at, entry_of, is_mark, name_at, next, one_entry, signer_at};
 
 use crate::fault::PolicyFault;

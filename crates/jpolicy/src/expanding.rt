@@ -1,11 +1,11 @@
 ghost use Rattle.std.specs.Prelude.{◌≡◌, ◌<◌, IfOk, IfSome, MatchOption, None, Some, length, position};
-ghost use Rattle.jground.specs.jbase.Stops.{Gives};
+ghost use Rattle.jground.specs.jbase.MemoryFailures.{Gives};
 ghost use Rattle.jpolicy.specs.Expansion.{expanded, expands_itself, look_up, named_up_to, one_piece, piece_at, value_of};
 ghost use Rattle.jpolicy.specs.ProofNames.{closes};
-ghost use Rattle.jpolicy.specs.Walks.{none_left};
+ghost use Rattle.jpolicy.specs.ListWalks.{none_left};
 
 use crate::walk::{Walk, walk_of};
-use jground::jbase::{Seq, Stop};
+use jground::jbase::{FaultOrMemory, Seq};
 use jground::jtext::Units;
 use std::alloc::{AllocError, Global};
 
@@ -48,7 +48,7 @@ fn named_of<'p, 'a: 'p>(
     properties: &'p [(Units, Units)],
     written: &'a [u16],
     text: &'a [u16],
-) -> Result<(&'p [u16], &'a [u16]), Stop<()>>
+) -> Result<(&'p [u16], &'a [u16]), FaultOrMemory<()>>
     ensures { Gives (λ x. (x.0.now, x.1.now)) result (named_up_to properties.now written.now text.now (position closes text.now)) }
 {
     match closing(text) {
@@ -58,7 +58,7 @@ fn named_of<'p, 'a: 'p>(
             let (_, behind) = text.split_at(end + 1);
             match value_of(properties, name) {
                 Some(value) => Ok((value, behind)),
-                None => Err(Stop::Fault(())),
+                None => Err(FaultOrMemory::Fault(())),
             }
         }
     }
@@ -69,7 +69,7 @@ fn named_of<'p, 'a: 'p>(
 fn piece_of<'p, 'a: 'p>(
     properties: &'p [(Units, Units)],
     text: &'a [u16],
-) -> Result<(&'p [u16], &'a [u16]), Stop<()>>
+) -> Result<(&'p [u16], &'a [u16]), FaultOrMemory<()>>
     ensures { Gives (λ x. (x.0.now, x.1.now)) result (piece_at properties.now text.now) }
 {
     match text {
@@ -108,7 +108,7 @@ impl<'p> Walk for Expander<'p> {
         _alloc: Global,
         done: Seq<u16>,
         text: &'a [u16],
-    ) -> Result<(Seq<u16>, &'a [u16]), Stop<()>> {
+    ) -> Result<(Seq<u16>, &'a [u16]), FaultOrMemory<()>> {
         one_piece(self.properties, done, text)
     }
 }
@@ -117,7 +117,7 @@ fn one_piece<'a>(
     properties: &[(Units, Units)],
     done: Seq<u16>,
     text: &'a [u16],
-) -> Result<(Seq<u16>, &'a [u16]), Stop<()>>
+) -> Result<(Seq<u16>, &'a [u16]), FaultOrMemory<()>>
     ensures { Gives (λ x. (x.0, x.1.now)) result (one_piece properties.now done text.now) }
 {
     let mut done = done;
@@ -138,8 +138,8 @@ pub fn expanded(
 {
     match walk_of(alloc, &Expander { properties }, Seq::new(alloc), text) {
         Ok((units, _)) => Ok(Some(Units::from_vec(units.into_vec()))),
-        Err(Stop::Memory) => Err(AllocError),
-        Err(Stop::Fault(())) => Ok(None),
+        Err(FaultOrMemory::Memory) => Err(AllocError),
+        Err(FaultOrMemory::Fault(())) => Ok(None),
     }
 }
 

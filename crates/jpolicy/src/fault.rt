@@ -2,7 +2,7 @@ ghost use Rattle.std.specs.Prelude.{◌≡◌};
 ghost use Rattle.jpolicy.specs.Productions.{fault_at};
 
 use crate::token::Placed;
-use jground::jbase::Stop;
+use jground::jbase::FaultOrMemory;
 use jground::jformat::{At, Fault, ReadError};
 
 /// What is wrong with a policy file.
@@ -17,15 +17,15 @@ pub enum PolicyFault {
 }
 
 /// Why bytes gave no policy: a fault at the offset of a byte, the first one of the file, or want of memory, which may come at any time.
-pub type PolicyError = Stop<At<PolicyFault>>;
+pub type PolicyError = FaultOrMemory<At<PolicyFault>>;
 
 /// A fault of the next token, or of the end of the text where none is left.
 pub fn fault(kind: PolicyFault, tokens: &[Placed]) -> ReadError<PolicyFault>
-    ensures { result ≡ Stop.Fault (fault_at kind tokens.now) }
+    ensures { result ≡ FaultOrMemory.Fault (fault_at kind tokens.now) }
 {
     let left = match tokens {
         [] => 0,
         [token, ..] => token.left,
     };
-    Stop::Fault(Fault { left, kind })
+    FaultOrMemory::Fault(Fault { left, kind })
 }

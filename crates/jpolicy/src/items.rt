@@ -1,8 +1,8 @@
 ghost use Rattle.std.specs.Prelude.{◌≡◌};
-ghost use Rattle.jground.specs.jbase.Stops.{Gives};
+ghost use Rattle.jground.specs.jbase.MemoryFailures.{Gives};
 ghost use Rattle.jpolicy.specs.Productions.{another_at, grant_at, grant_of, keystore_at, one_item, others_at, password_at, policy_at};
 ghost use Rattle.jpolicy.specs.ProofNames.{one_more_grant};
-ghost use Rattle.jpolicy.specs.Walks.{none_left};
+ghost use Rattle.jpolicy.specs.ListWalks.{none_left};
 
 use crate::clauses::{Clauses, clauses_of};
 use crate::entry::entries_of;

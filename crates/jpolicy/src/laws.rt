@@ -1,4 +1,4 @@
-ghost use Rattle.jpolicy.specs.WalkLaws.{ClausesEnd, EntriesEnd, ExpansionEnds, ItemsEnd, StringEnds, TextEnds};
+ghost use Rattle.jpolicy.specs.ReaderTermination.{ClausesEnd, EntriesEnd, ExpansionEnds, ItemsEnd, StringEnds, TextEnds};
 
 /// The laws of the reader's walks: each ends at its test, at a fault, or with nothing left, and never for want of steps.
 pub fn walk_laws()

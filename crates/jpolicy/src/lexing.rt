@@ -1,18 +1,18 @@
 ghost use Rattle.std.specs.Prelude.{◌≡◌, ◌≤◌, ◌∷◌, IfOk, MatchOption, None, Some, length};
 ghost use Rattle.std.specs.List.{flat_map, prefix_len, position_or_len};
 ghost use Rattle.std.specs.Char.Escape.{encode_utf16};
-ghost use Rattle.jground.specs.jbase.Stops.{Gives};
+ghost use Rattle.jground.specs.jbase.MemoryFailures.{Gives};
 ghost use Rattle.jpolicy.specs.Characters.{ends_line, is_word_character};
 ghost use Rattle.jpolicy.specs.Strings.{string_at};
 ghost use Rattle.jpolicy.specs.Tokens.{behind_comment, comment_at, lexeme_at, more_at, tokens, with_lexeme, word_at};
 ghost use Rattle.jpolicy.specs.ProofNames.{quoted};
-ghost use Rattle.jpolicy.specs.Walks.{none_left};
+ghost use Rattle.jpolicy.specs.ListWalks.{none_left};
 
 use crate::character::{ends_line, is_gap, is_mark, is_word_character};
 use crate::quoted::string_of;
 use crate::token::{Placed, Token};
 use crate::walk::{Walk, walk_of};
-use jground::jbase::{Seq, Stop};
+use jground::jbase::{FaultOrMemory, Seq};
 use jground::jtext::Units;
 use std::alloc::{AllocError, Global};
 
@@ -94,8 +94,8 @@ fn quoted_of(alloc: Global, text: &[char]) -> Result<(Option<Token>, &[char]), A
 {
     match string_of(alloc, text) {
         Ok((units, rest)) => Ok((Some(Token::Text(units)), rest)),
-        Err(Stop::Memory) => Err(AllocError),
-        Err(Stop::Fault(())) => Ok((Some(Token::Bad), &[])),
+        Err(FaultOrMemory::Memory) => Err(AllocError),
+        Err(FaultOrMemory::Fault(())) => Ok((Some(Token::Bad), &[])),
     }
 }
 
@@ -133,7 +133,7 @@ fn with_lexeme<'a>(
     left: usize,
     one: Option<Token>,
     rest: &'a [char],
-) -> Result<(Seq<Placed>, &'a [char]), Stop<()>>
+) -> Result<(Seq<Placed>, &'a [char]), FaultOrMemory<()>>
     ensures { Gives (λ x. (x.0, x.1.now)) result (with_lexeme tokens left (one, rest.now)) }
 {
     let mut tokens = tokens;
@@ -150,7 +150,7 @@ fn more_of(
     alloc: Global,
     tokens: Seq<Placed>,
     text: &[char],
-) -> Result<(Seq<Placed>, &[char]), Stop<()>>
+) -> Result<(Seq<Placed>, &[char]), FaultOrMemory<()>>
     ensures { Gives (λ x. (x.0, x.1.now)) result (more_at tokens text.now) }
 {
     match text {
@@ -184,7 +184,7 @@ impl Walk for Lexer {
         alloc: Global,
         tokens: Seq<Placed>,
         text: &'a [char],
-    ) -> Result<(Seq<Placed>, &'a [char]), Stop<()>> {
+    ) -> Result<(Seq<Placed>, &'a [char]), FaultOrMemory<()>> {
         more_of(alloc, tokens, text)
     }
 }
@@ -196,7 +196,7 @@ pub fn tokens_of(alloc: Global, text: &[char]) -> Result<Seq<Placed>, AllocError
 {
     match walk_of(alloc, &Lexer, Seq::new(alloc), text) {
         Ok((tokens, _)) => Ok(tokens),
-        Err(Stop::Memory) => Err(AllocError),
-        Err(Stop::Fault(())) => Ok(Seq::new(alloc)),
+        Err(FaultOrMemory::Memory) => Err(AllocError),
+        Err(FaultOrMemory::Fault(())) => Ok(Seq::new(alloc)),
     }
 }

@@ -6,7 +6,7 @@
 //!   allow.
 //! - `Productions`: the same grammar as productions, which say the first fault.
 //! - `Policies`: from bytes to grants, and a fault as that of the first token that isn't allowed.
-//! - `Walks`, `WalkLaws`: going along a list by steps, and where such a walk ends.
+//! - `ListWalks`, `ReaderTermination`: going along a list by steps, and where such a walk ends.
 //!
 //! Proved: `read_policy` reads exactly what the grammar derives, with the grants that it states and their properties expanded; of other
 //! bytes it names the fault that the productions name, and this is the first token that the grammar doesn't allow: the tokens in front
@@ -14,8 +14,6 @@
 //! none of its walks ends for want of steps.
 //!
 //! `ProofNames` are names by which proofs and contracts of inner functions call what the definitions say in place.
-//!
-//! Rooms of permissions and policies and jobs and the top may name it, and tests.
 #![tactic(auto)]
 
 mod character;

@@ -1,5 +1,5 @@
 ghost use Rattle.std.specs.Prelude.{◌≡◌, IfOk};
-ghost use Rattle.jground.specs.jbase.Stops.{Gives};
+ghost use Rattle.jground.specs.jbase.MemoryFailures.{Gives};
 ghost use Rattle.jpolicy.specs.Productions.{behind, is_keyword, is_mark, is_text, keyword_at, mark_at, names_principal, next, text_at, with_one, word_at};
 ghost use Rattle.jpolicy.specs.ProofNames.{is_word};
 

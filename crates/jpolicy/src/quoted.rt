@@ -1,11 +1,11 @@
 ghost use Rattle.std.specs.Prelude.{◌≡◌, ◌++◌};
 ghost use Rattle.std.specs.Char.Escape.{encode_utf16};
-ghost use Rattle.jground.specs.jbase.Stops.{Gives};
+ghost use Rattle.jground.specs.jbase.MemoryFailures.{Gives};
 ghost use Rattle.jpolicy.specs.Strings.{at_quote, behind_quote, character_at, escape_at, meant, one_more, string_at};
 
 use crate::character::{ends_line, is_octal};
 use crate::walk::{Walk, walk_of};
-use jground::jbase::{Seq, Stop};
+use jground::jbase::{FaultOrMemory, Seq};
 use jground::jtext::Units;
 use std::alloc::Global;
 
@@ -20,14 +20,14 @@ fn meant(c: char) -> char
     }
 }
 
-fn escape_of(text: &[char]) -> Result<(char, &[char]), Stop<()>>
+fn escape_of(text: &[char]) -> Result<(char, &[char]), FaultOrMemory<()>>
     ensures { Gives (λ x. (x.0, x.1.now)) result (escape_at text.now) }
 {
     match text {
-        [] => Err(Stop::Fault(())),
+        [] => Err(FaultOrMemory::Fault(())),
         [c, rest @ ..] => {
             if ends_line(*c) || is_octal(*c) {
-                return Err(Stop::Fault(()));
+                return Err(FaultOrMemory::Fault(()));
             }
             Ok((meant(*c), rest))
         }
@@ -36,14 +36,14 @@ fn escape_of(text: &[char]) -> Result<(char, &[char]), Stop<()>>
 
 /// The character that stands at the front of a string's text, and what is behind it.
 #[tactic(auto, unfolding(crate::specs::Strings::character_at))]
-fn character_of(text: &[char]) -> Result<(char, &[char]), Stop<()>>
+fn character_of(text: &[char]) -> Result<(char, &[char]), FaultOrMemory<()>>
     ensures { Gives (λ x. (x.0, x.1.now)) result (character_at text.now) }
 {
     match text {
-        [] => Err(Stop::Fault(())),
+        [] => Err(FaultOrMemory::Fault(())),
         [c, rest @ ..] => {
             if ends_line(*c) {
-                return Err(Stop::Fault(()));
+                return Err(FaultOrMemory::Fault(()));
             }
             if *c == '\\' {
                 return escape_of(rest);
@@ -75,7 +75,7 @@ impl Walk for StringWalk {
         _alloc: Global,
         units: Seq<u16>,
         text: &'a [char],
-    ) -> Result<(Seq<u16>, &'a [char]), Stop<()>> {
+    ) -> Result<(Seq<u16>, &'a [char]), FaultOrMemory<()>> {
         one_more(units, text)
     }
 }
@@ -89,7 +89,7 @@ fn at_quote(text: &[char]) -> bool
     }
 }
 
-fn one_more(units: Seq<u16>, text: &[char]) -> Result<(Seq<u16>, &[char]), Stop<()>>
+fn one_more(units: Seq<u16>, text: &[char]) -> Result<(Seq<u16>, &[char]), FaultOrMemory<()>>
     ensures { Gives (λ x. (x.0, x.1.now)) result (one_more units text.now) }
 {
     let mut units = units;
@@ -99,16 +99,16 @@ fn one_more(units: Seq<u16>, text: &[char]) -> Result<(Seq<u16>, &[char]), Stop<
     Ok((units, rest))
 }
 
-fn behind_quote(text: &[char]) -> Result<&[char], Stop<()>>
+fn behind_quote(text: &[char]) -> Result<&[char], FaultOrMemory<()>>
     ensures { Gives (λ x. (tt, x.now)) result (behind_quote text.now) }
 {
     match text {
-        [] => Err(Stop::Fault(())),
+        [] => Err(FaultOrMemory::Fault(())),
         [c, rest @ ..] => {
             if *c == '"' {
                 return Ok(rest);
             }
-            Err(Stop::Fault(()))
+            Err(FaultOrMemory::Fault(()))
         }
     }
 }
@@ -116,7 +116,7 @@ fn behind_quote(text: &[char]) -> Result<&[char], Stop<()>>
 /// The text of a string up to the quote that ends it, in UTF-16 units, and the characters behind that quote. A fault says that the line or
 /// the text ends before, or that there is an octal escape.
 #[tactic(auto, unfolding(crate::specs::Strings::string_at))]
-pub fn string_of(alloc: Global, text: &[char]) -> Result<(Units, &[char]), Stop<()>>
+pub fn string_of(alloc: Global, text: &[char]) -> Result<(Units, &[char]), FaultOrMemory<()>>
     ensures { Gives (λ x. (x.0, x.1.now)) result (string_at text.now) }
 {
     let (units, rest) = walk_of(alloc, &StringWalk, Seq::new(alloc), text)?;

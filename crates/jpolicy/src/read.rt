@@ -1,6 +1,6 @@
 ghost use Rattle.std.specs.Prelude.{◌≡◌, ◌≤◌, List, IfErr, IfOk, Ok, length};
 ghost use Rattle.std.specs.Str.{chars, encode_utf8_all};
-ghost use Rattle.jground.specs.jbase.Stops.{Gives};
+ghost use Rattle.jground.specs.jbase.MemoryFailures.{Gives};
 ghost use Rattle.jpolicy.specs.declared.grant.Grant.{Grant};
 ghost use Rattle.jpolicy.specs.Policies.{IsFault, IsPolicy, place_of, policy, policy_in};
 
@@ -8,7 +8,7 @@ use crate::fault::{PolicyError, PolicyFault};
 use crate::grant::Policy;
 use crate::items::grants_of;
 use crate::lexing::tokens_of;
-use jground::jbase::Stop;
+use jground::jbase::FaultOrMemory;
 use jground::jformat::At;
 use jground::jtext::Units;
 use std::alloc::{AllocError, Global};
@@ -46,8 +46,8 @@ fn policy_in(
     let tokens = tokens_of(alloc, characters.as_slice())?;
     match grants_of(alloc, properties, tokens.as_slice()) {
         Ok(grants) => Ok(grants),
-        Err(Stop::Memory) => Err(Stop::Memory),
-        Err(Stop::Fault(found)) => Err(Stop::Fault(At {
+        Err(FaultOrMemory::Memory) => Err(FaultOrMemory::Memory),
+        Err(FaultOrMemory::Fault(found)) => Err(FaultOrMemory::Fault(At {
             at: place_of(characters.as_slice(), found.left) as u32,
             kind: found.kind,
         })),
@@ -64,7 +64,7 @@ fn policy_of(
 {
     match str::from_utf8(bytes) {
         Ok(text) => policy_in(alloc, text, properties),
-        Err(found) => Err(Stop::Fault(At {
+        Err(found) => Err(FaultOrMemory::Fault(At {
             at: found.valid_up_to() as u32,
             kind: PolicyFault::NotUtf8,
         })),

@@ -1,8 +1,8 @@
 ghost use Rattle.std.specs.Prelude.{◌≡◌, Bool, List, Result, length};
-ghost use Rattle.jground.specs.jbase.Stops.{Gives};
-ghost use Rattle.jpolicy.specs.Walks.{walk};
+ghost use Rattle.jground.specs.jbase.MemoryFailures.{Gives};
+ghost use Rattle.jpolicy.specs.ListWalks.{walk};
 
-use jground::jbase::Stop;
+use jground::jbase::FaultOrMemory;
 use std::alloc::Global;
 
 /// What goes from one state to the next over some items at the front of a list.
@@ -27,7 +27,7 @@ pub trait Walk {
         alloc: Global,
         state: Self::State,
         items: &'a [Self::Item],
-    ) -> Result<(Self::State, &'a [Self::Item]), Stop<Self::Fault>>
+    ) -> Result<(Self::State, &'a [Self::Item]), FaultOrMemory<Self::Fault>>
         ensures { Gives (λ x. (x.0, x.1.now)) result (goes self.now state items.now) };
 }
 
@@ -37,7 +37,7 @@ pub fn walk_of<'a, W: Walk>(
     by: &W,
     first: W::State,
     items: &'a [W::Item],
-) -> Result<(W::State, &'a [W::Item]), Stop<W::Fault>>
+) -> Result<(W::State, &'a [W::Item]), FaultOrMemory<W::Fault>>
     ensures { Gives (λ x. (x.0, x.1.now)) result (walk (W.ends by.now) (W.goes by.now) (length items.now) first items.now) }
 {
     let mut state = first;

@@ -1,23 +1,23 @@
 ghost use Rattle.std.specs.Prelude.{◌≡◌, IfOk, List, ℕ, Ok};
-ghost use Rattle.jground.specs.jbase.Stops.{Gives};
+ghost use Rattle.jground.specs.jbase.MemoryFailures.{Gives};
 ghost use Rattle.jclass.specs.declared.class.ClassParts.{ClassParts};
 ghost use Rattle.jclass.specs.Class;
 ghost use Rattle.jclass.specs.Class.{Spells, class_file, ends};
-ghost use Rattle.jground.specs.jformat.Places.{GivesAt};
-ghost use Rattle.jclass.specs.Rules.{names_class, names_super};
-ghost use Rattle.jground.specs.jformat.Bodies.{whole};
-ghost use Rattle.jclass.specs.Basics.{index, unseen};
-ghost use Rattle.jclass.specs.Shapes;
-ghost use Rattle.jclass.specs.Shapes.{has_shape};
+ghost use Rattle.jground.specs.jformat.FaultOffsets.{GivesAt};
+ghost use Rattle.jclass.specs.FlagRules.{names_class, names_super};
+ghost use Rattle.jground.specs.jformat.BodyFormats.{whole};
+ghost use Rattle.jclass.specs.IndexFormats.{index, unseen};
+ghost use Rattle.jclass.specs.ClassFileShape;
+ghost use Rattle.jclass.specs.ClassFileShape.{has_shape};
 ghost use Rattle.jclass.specs.declared.fault.ClassFault.TheVariants as kinds;
-ghost use Rattle.jreadclass.specs.Tails.{tail_parts};
+ghost use Rattle.jreadclass.specs.ClassTails.{tail_parts};
 
 use jclass::ClassFault::{Index, Trailing, Truncated};
 use jclass::{
     Access, Attribute, ClassAttributes, ClassError, ClassFault, ClassFile, ClassParts, Fields,
-    Head, Known, MemberInfo, Methods, access_of, head_of, judge_pool, skip_tail,
+    Head, MemberInfo, Methods, PoolInfo, access_of, head_of, judge_pool, skip_tail,
 };
-use jground::jbase::{Seq, Stop};
+use jground::jbase::{FaultOrMemory, Seq};
 use jground::jformat::{ReadError, Reader, counted_of, fault, stop_at, u16_of};
 use jparts::jpool::Pool;
 use std::alloc::Global;
@@ -25,7 +25,7 @@ use std::alloc::Global;
 // ---- the third pass
 
 fn class_index_of<'a>(
-    known: &Known<'_>,
+    known: &PoolInfo<'_>,
     bytes: &'a [u8],
 ) -> Result<(u16, &'a [u8]), ReadError<ClassFault>>
     ensures { Gives (λ x. (x.0, x.1.now)) result ((index (names_class known.now)).read bytes.now) }
@@ -38,7 +38,7 @@ fn class_index_of<'a>(
 }
 
 fn super_index_of<'a>(
-    known: &Known<'_>,
+    known: &PoolInfo<'_>,
     bytes: &'a [u8],
 ) -> Result<(u16, &'a [u8]), ReadError<ClassFault>>
     ensures { Gives (λ x. (x.0, x.1.now)) result ((index (names_super known.now)).read bytes.now) }
@@ -52,7 +52,7 @@ fn super_index_of<'a>(
 
 #[derive(Clone, Copy)]
 struct Interfaces<'r, 'p> {
-    known: &'r Known<'p>,
+    known: &'r PoolInfo<'p>,
 }
 
 impl<'r, 'p> Reader for Interfaces<'r, 'p> {
@@ -86,7 +86,7 @@ pub struct Tail {
 #[tactic(auto, unfolding(jclass::specs::Class::tail))]
 fn tail_of<'a>(
     alloc: Global,
-    known: &Known<'_>,
+    known: &PoolInfo<'_>,
     bytes: &'a [u8],
 ) -> Result<(Tail, &'a [u8]), ReadError<ClassFault>>
     ensures { Gives (λ x. (tail_parts x.0, x.1.now)) result ((Class.tail known.now).read bytes.now) }
@@ -120,7 +120,7 @@ fn tail_in<'a>(
 ) -> Result<(Tail, &'a [u8]), ReadError<ClassFault>>
     ensures { Gives (λ x. (tail_parts x.0, x.1.now)) result ((Class.tail pool.now).read bytes.now) }
 {
-    let known = Known::of(alloc, pool)?;
+    let known = PoolInfo::of(alloc, pool)?;
     let (tail, rest) = tail_of(alloc, &known, bytes)?;
     Ok((tail, rest))
 }
@@ -129,7 +129,7 @@ fn tail_in<'a>(
 
 /// Goes over the rest of a class file, behind which nothing may stand.
 fn skip_to_the_end(alloc: Global, bytes: &[u8]) -> Result<(), ReadError<ClassFault>>
-    ensures { Gives (λ x. x) result (ends (unseen (Shapes.tail.read bytes.now))) }
+    ensures { Gives (λ x. x) result (ends (unseen (ClassFileShape.tail.read bytes.now))) }
 {
     let rest = skip_tail(alloc, bytes)?;
     if !rest.is_empty() {
@@ -140,7 +140,7 @@ fn skip_to_the_end(alloc: Global, bytes: &[u8]) -> Result<(), ReadError<ClassFau
 
 /// The first pass: the front of a class file, and the bytes behind it, which have the shape of the rest of one.
 fn shape_of(alloc: Global, bytes: &[u8]) -> Result<(Head, &[u8]), ReadError<ClassFault>>
-    ensures front { IfOk result (λ x. Shapes.head.read bytes.now ≡ Ok ((tt, (x.0.minor, (x.0.major, x.0.entries))), x.1.now)) }
+    ensures front { IfOk result (λ x. ClassFileShape.head.read bytes.now ≡ Ok ((tt, (x.0.minor, (x.0.major, x.0.entries))), x.1.now)) }
     ensures shape { Gives (λ _. tt) result (has_shape bytes.now) }
 {
     let (head, rest) = head_of(alloc, bytes)?;
@@ -149,19 +149,19 @@ fn shape_of(alloc: Global, bytes: &[u8]) -> Result<(Head, &[u8]), ReadError<Clas
 }
 
 /// The second and third pass, over bytes whose front is known.
-#[tactic(auto, unfolding(jclass::specs::Class::strict, jclass::specs::Judging::head))]
+#[tactic(auto, unfolding(jclass::specs::Class::strict, jclass::specs::PoolChecks::head))]
 fn parts_of(
     alloc: Global,
     bytes: &[u8],
     head: Head,
     rest: &[u8],
 ) -> Result<ClassParts, ReadError<ClassFault>>
-    requires { Shapes.head.read bytes.now ≡ Ok ((tt, (head.minor, (head.major, head.entries))), rest.now) }
+    requires { ClassFileShape.head.read bytes.now ≡ Ok ((tt, (head.minor, (head.major, head.entries))), rest.now) }
     ensures { Gives (λ c. c) result ((whole kinds.Trailing Class.strict).read bytes.now) }
 {
     let left = bytes.len().saturating_sub(10);
     if let Some(found) = judge_pool(alloc, head.entries.as_slice(), left)? {
-        return Err(Stop::Fault(found));
+        return Err(FaultOrMemory::Fault(found));
     }
     let pool = Pool::from_entries(head.entries);
     let (tail, rest) = tail_in(alloc, &pool, rest)?;

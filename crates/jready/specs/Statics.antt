@@ -3,22 +3,22 @@ use Rattle.std.specs.Prelude.{◌≡◌, ℕ, pos, List, map, option_map, unwrap
 use Rattle.jparts.specs.declared.jpool.entry.Entry.{Entry}
 use Rattle.jclass.specs.declared.class.ClassParts.{ClassParts}
 use Rattle.jclass.specs.declared.class.MemberInfo.{MemberInfo}
-use Rattle.jground.specs.declared.jops.value.Value.{Value}
-use Rattle.jground.specs.declared.jops.value.Value.TheVariants.{Int, Long, Ref}
-use Rattle.jheap.specs.declared.cell.CellType.{CellType}
-use Rattle.jheap.specs.declared.cell.CellType.TheVariants as cells
-use Rattle.jprogram.specs.declared.part.CodePart.{CodePart}
-use Rattle.jprogram.specs.Classes.{Program}
-use Rattle.jprogram.specs.Parts.{text}
-use Rattle.jmeaning.specs.juses.Tables.{Pairs, pool_at}
-use Rattle.jmeaning.specs.jlayout.Layout as layout
-use Rattle.jmodel.specs.jmachine.Making.{units_of}
-use Rattle.jmodel.specs.jmachine.Opening.{first_value}
-use Rattle.jmodel.specs.jmachine.Store.{constant_at}
+use Rattle.jvalues.specs.declared.jops.value.Value.{Value}
+use Rattle.jvalues.specs.declared.jops.value.Value.TheVariants.{Int, Long, Ref}
+use Rattle.jmemory.specs.declared.jheap.cell.CellType.{CellType}
+use Rattle.jmemory.specs.declared.jheap.cell.CellType.TheVariants as cells
+use Rattle.jresolution.specs.declared.jprogram.part.CodePart.{CodePart}
+use Rattle.jresolution.specs.jprogram.ProgramClasses.{Program}
+use Rattle.jresolution.specs.jprogram.ClassFileParts.{text}
+use Rattle.jresolution.specs.juses.PoolTables.{Pairs, pool_at}
+use Rattle.jresolution.specs.jlayout.FieldLayout as layout
+use Rattle.jsemantics.specs.jmachine.ObjectInstructions.{units_of}
+use Rattle.jsemantics.specs.jmachine.OpeningState.{first_value}
+use Rattle.jsemantics.specs.jmachine.Store.{constant_at}
 use Rattle.jready.specs.declared.statics.First.{First}
 use Rattle.jready.specs.declared.statics.First.TheVariants as firsts
 use Rattle.jready.specs.declared.statics.StaticRow.{StaticRow}
-use Rattle.jready.specs.Exact.{cell_of}
+use Rattle.jready.specs.InlineOperands.{cell_of}
 
 -- what a cell holds before anything is put there: 0 or null
 abbrev pub nothing : CellType → Value ℕ

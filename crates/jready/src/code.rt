@@ -1,30 +1,30 @@
 ghost use Rattle.std.specs.Prelude.{◌≡◌, ◌+◌, ℕ, IfOk, List, OnOk, length};
-ghost use Rattle.jprogram.specs.Classes.{Program};
-ghost use Rattle.jmeaning.specs.declared.juses.types.TypeRef.{TypeRef as Ref};
-ghost use Rattle.jmeaning.specs.ProofNames;
-ghost use Rattle.jmeaning.specs.juses.Instructions.{instruction};
-ghost use Rattle.jmeaning.specs.juses.Numbered.{AreCode};
-ghost use Rattle.jmeaning.specs.juses.Tables.{Grows, pool_at};
-ghost use Rattle.jready.specs.Exact.{Exact};
-ghost use Rattle.jready.specs.Known.{IsKnown};
-ghost use Rattle.jready.specs.Laid.{AreLaid, Within, followed, instr_goes_on};
-ghost use Rattle.jready.specs.Meant.{meant};
-ghost use Rattle.jready.specs.Tabled.{Grown};
+ghost use Rattle.jresolution.specs.jprogram.ProgramClasses.{Program};
+ghost use Rattle.jresolution.specs.declared.juses.types.TypeRef.{TypeRef as Ref};
+ghost use Rattle.jresolution.specs.ProofNames;
+ghost use Rattle.jresolution.specs.juses.IndexedInstructions.{instruction};
+ghost use Rattle.jresolution.specs.juses.InternedInstructions.{AreCode};
+ghost use Rattle.jresolution.specs.juses.PoolTables.{Grows, pool_at};
+ghost use Rattle.jready.specs.InlineOperands.{Exact};
+ghost use Rattle.jready.specs.ProgramFacts.{IsKnown};
+ghost use Rattle.jready.specs.CodeLayout.{AreLaid, Within, followed, instr_goes_on};
+ghost use Rattle.jready.specs.DecodedInstructions.{meant};
+ghost use Rattle.jready.specs.TableGrowth.{Grown};
 
 use crate::flows::flow_instr;
 use crate::instr::{ArrayInstr, FlowInstr, Instr};
-use crate::known::Known;
 use crate::plain::plain_of;
 use crate::pooled::{array_of, pool_instr};
+use crate::program_info::ProgramInfo;
 use crate::tables::Tables;
 use jground::jbase::Seq;
-use jmeaning::juses::When;
-use jparts::jcode::{ArrayForm, Form, Placed, form_of};
+use jparts::jcode::{ArrayForm, OpForm, Placed, form_of};
+use jresolution::juses::Condition;
 use std::alloc::{AllocError, Global};
 
-#[tactic(auto, unfolding(crate::specs::Meant::meant))]
+#[tactic(auto, unfolding(crate::specs::DecodedInstructions::meant))]
 fn by_array(
-    known: &Known<'_>,
+    known: &ProgramInfo<'_>,
     tables: &mut Tables,
     class: u32,
     form: ArrayForm,
@@ -45,10 +45,10 @@ fn by_array(
 }
 
 /// What an instruction of a class is by number among those of its method.
-#[tactic(auto, unfolding(crate::specs::Meant::meant, jmeaning::specs::juses::Instructions::instruction))]
+#[tactic(auto, unfolding(crate::specs::DecodedInstructions::meant, jresolution::specs::juses::IndexedInstructions::instruction))]
 fn instr_of(
     alloc: Global,
-    known: &Known<'_>,
+    known: &ProgramInfo<'_>,
     tables: &mut Tables,
     class: u32,
     ops: &[Placed],
@@ -62,15 +62,15 @@ fn instr_of(
     ensures grown { IfOk result (λ i. Grown tables.old tables.new) }
 {
     match form_of(&one.op) {
-        Form::Simple(form) => {
+        OpForm::Simple(form) => {
             let plain = plain_of(tables, form)?;
             Ok(Instr::Plain(plain))
         }
-        Form::Local(form) => Ok(Instr::Local(form)),
-        Form::Stack(op) => Ok(Instr::Stack(op)),
-        Form::Flow(flow) => flow_instr(alloc, tables, ops, one.at, &flow),
-        Form::Array(form) => by_array(known, tables, class, form),
-        Form::Pool(form) => pool_instr(known, tables, class, form),
+        OpForm::Local(form) => Ok(Instr::Local(form)),
+        OpForm::Stack(op) => Ok(Instr::Stack(op)),
+        OpForm::Flow(flow) => flow_instr(alloc, tables, ops, one.at, &flow),
+        OpForm::Array(form) => by_array(known, tables, class, form),
+        OpForm::Pool(form) => pool_instr(known, tables, class, form),
     }
 }
 
@@ -78,7 +78,7 @@ fn goes_on(i: Instr) -> bool
     ensures { result ≡ instr_goes_on i }
 {
     match i {
-        Instr::Flow(FlowInstr::Jump(When::Always, _)) => false,
+        Instr::Flow(FlowInstr::Jump(Condition::Always, _)) => false,
         Instr::Flow(FlowInstr::Jump(_, _)) => true,
         Instr::Flow(_) => false,
         Instr::Table(_) | Instr::Lookup(_) => false,
@@ -87,7 +87,7 @@ fn goes_on(i: Instr) -> bool
 }
 
 /// The instruction, unless it would go on and there is none behind it.
-#[tactic(auto, using(crate::proofs::Followed::more_stays, crate::proofs::Followed::last_stops, crate::proofs::Followed::last_stays), unfolding(crate::specs::Meant::meant))]
+#[tactic(auto, using(crate::proofs::FallThrough::more_stays, crate::proofs::FallThrough::last_stops, crate::proofs::FallThrough::last_stays), unfolding(crate::specs::DecodedInstructions::meant))]
 fn unless_last(i: Instr, more: bool) -> Instr
     ensures means { (p : Program) (t : Tables) (class : ℕ) → meant p t class result ≡ followed more (meant p t class i) }
     ensures within { (t : Tables) → Within t i → Within t result }
@@ -105,7 +105,7 @@ fn unless_last(i: Instr, more: bool) -> Instr
 /// Puts a method's instructions behind others, and says where they begin.
 pub(crate) fn put_ops(
     alloc: Global,
-    known: &Known<'_>,
+    known: &ProgramInfo<'_>,
     tables: &mut Tables,
     code: &mut Seq<Instr>,
     class: u32,

@@ -1,17 +1,17 @@
 ghost use Rattle.std.specs.Prelude.{◌≡◌, ℕ};
-ghost use Rattle.jground.specs.declared.jops.value.Value.{Value};
-ghost use Rattle.jprogram.specs.Members.{desc_of};
-ghost use Rattle.jmeaning.specs.jlayout.Layout;
-ghost use Rattle.jmodel.specs.jmachine.Narrowing.{narrowed};
-ghost use Rattle.jready.specs.Exact.{narrow};
+ghost use Rattle.jvalues.specs.declared.jops.value.Value.{Value};
+ghost use Rattle.jresolution.specs.jprogram.MemberResolution.{desc_of};
+ghost use Rattle.jresolution.specs.jlayout.FieldLayout;
+ghost use Rattle.jsemantics.specs.jmachine.Narrowing.{narrowed};
+ghost use Rattle.jready.specs.InlineOperands.{narrow};
 
 use crate::instr::Narrow;
 use jlinking::jlink::LinkedProgram;
-use jprogram::Member;
+use jresolution::jprogram::Member;
 
 /// What is left of an int in a field of a descriptor (JVMS 4.3.2, 2.11.1).
 pub(crate) fn narrow_of(desc: &[u8]) -> Narrow
-    ensures { (v : Value ℕ) → narrowed (Layout.element desc.now) v ≡ narrow result v }
+    ensures { (v : Value ℕ) → narrowed (FieldLayout.element desc.now) v ≡ narrow result v }
 {
     if desc == b"Z".as_slice() {
         return Narrow::Boolean;
@@ -30,7 +30,7 @@ pub(crate) fn narrow_of(desc: &[u8]) -> Narrow
 
 /// What is left of an int in a field.
 pub(crate) fn narrow_at(p: &LinkedProgram, field: Member) -> Narrow
-    ensures { (v : Value ℕ) → narrowed (Layout.element (desc_of p.now field)) v ≡ narrow result v }
+    ensures { (v : Value ℕ) → narrowed (FieldLayout.element (desc_of p.now field)) v ≡ narrow result v }
 {
     narrow_of(p.named().desc_of_member(field))
 }

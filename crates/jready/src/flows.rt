@@ -1,25 +1,25 @@
 ghost use Rattle.std.specs.Prelude.{◌≡◌, ◌+◌, ◌≤◌, ℕ, IfOk, List, Some, length, map};
-ghost use Rattle.jparts.specs.jcode.Forms;
-ghost use Rattle.jprogram.specs.Classes.{Program};
-ghost use Rattle.jmeaning.specs.declared.juses.types.TypeRef.{TypeRef as Ref};
-ghost use Rattle.jmeaning.specs.juses.Instructions;
-ghost use Rattle.jmeaning.specs.juses.Numbered.{AreCode, flow_named, keyed_as, keys_from, keys_of};
-ghost use Rattle.jready.specs.Exact.{Exact};
-ghost use Rattle.jready.specs.Laid.{Within};
-ghost use Rattle.jready.specs.Meant.{lookup_meant, meant, table_meant};
-ghost use Rattle.jready.specs.Tabled.{AreThere, Grown};
+ghost use Rattle.jparts.specs.jcode.InstructionForms;
+ghost use Rattle.jresolution.specs.jprogram.ProgramClasses.{Program};
+ghost use Rattle.jresolution.specs.declared.juses.types.TypeRef.{TypeRef as Ref};
+ghost use Rattle.jresolution.specs.juses.IndexedInstructions;
+ghost use Rattle.jresolution.specs.juses.InternedInstructions.{AreCode, flow_named, keyed_as, keys_from, keys_of};
+ghost use Rattle.jready.specs.InlineOperands.{Exact};
+ghost use Rattle.jready.specs.CodeLayout.{Within};
+ghost use Rattle.jready.specs.DecodedInstructions.{lookup_meant, meant, table_meant};
+ghost use Rattle.jready.specs.TableGrowth.{AreThere, Grown};
 
 use crate::instr::{FlowInstr, Instr, Lookup, Table};
 use crate::tables::Tables;
-use jmeaning::juses::{FlowRef, Key, Keys, flow_of};
 use jparts::jcode::{Flow, Placed, Switch};
+use jresolution::juses::{FlowRef, Key, Keys, flow_of};
 use std::alloc::{AllocError, Global};
 
 // ---- switches
 
 /// A switch whose keys rise by one from the least.
 fn table(tables: &mut Tables, low: i32, numbers: &[u32], other: u32) -> Result<Table, AllocError>
-    ensures means { IfOk result (λ c. table_meant tables.new c ≡ Some (Instructions.Switch (keys_from low numbers.now) other)) }
+    ensures means { IfOk result (λ c. table_meant tables.new c ≡ Some (IndexedInstructions.Switch (keys_from low numbers.now) other)) }
     ensures within { IfOk result (λ c. (c.first + 1) + c.count ≤ length tables.new.targets) }
     ensures grown { IfOk result (λ c. Grown tables.old tables.new) }
 {
@@ -34,7 +34,7 @@ fn table(tables: &mut Tables, low: i32, numbers: &[u32], other: u32) -> Result<T
 
 /// A switch by keys.
 fn lookup(tables: &mut Tables, keys: &[Key], other: u32) -> Result<Lookup, AllocError>
-    ensures means { IfOk result (λ c. lookup_meant tables.new c ≡ Instructions.Switch (map keyed_as keys.now) other) }
+    ensures means { IfOk result (λ c. lookup_meant tables.new c ≡ IndexedInstructions.Switch (map keyed_as keys.now) other) }
     ensures within { IfOk result (λ c. AreThere tables.new.keys c.first c.count) }
     ensures grown { IfOk result (λ c. Grown tables.old tables.new) }
 {
@@ -46,9 +46,9 @@ fn lookup(tables: &mut Tables, keys: &[Key], other: u32) -> Result<Lookup, Alloc
     })
 }
 
-#[tactic(auto, unfolding(crate::specs::Meant::meant))]
+#[tactic(auto, unfolding(crate::specs::DecodedInstructions::meant))]
 fn by_keys(tables: &mut Tables, keys: &Keys, other: u32) -> Result<Instr, AllocError>
-    ensures means { IfOk result (λ i. (p : Program) (class : ℕ) → meant p tables.new class i ≡ Some (Instructions.Switch (keys_of keys.now) other)) }
+    ensures means { IfOk result (λ i. (p : Program) (class : ℕ) → meant p tables.new class i ≡ Some (IndexedInstructions.Switch (keys_of keys.now) other)) }
     ensures within { IfOk result (Within tables.new) }
     ensures exact { IfOk result (λ i. (p : Program) (types : List Ref) (class : ℕ) → Exact p types tables.new class i) }
     ensures grown { IfOk result (λ i. Grown tables.old tables.new) }
@@ -68,7 +68,7 @@ fn by_keys(tables: &mut Tables, keys: &Keys, other: u32) -> Result<Instr, AllocE
 // ---- all
 
 /// What says where the method goes on, by number.
-#[tactic(auto, unfolding(crate::specs::Meant::meant))]
+#[tactic(auto, unfolding(crate::specs::DecodedInstructions::meant))]
 fn numbered(tables: &mut Tables, flow: FlowRef) -> Result<Instr, AllocError>
     ensures means { IfOk result (λ i. (p : Program) (class : ℕ) → meant p tables.new class i ≡ Some (flow_named flow)) }
     ensures within { IfOk result (Within tables.new) }
@@ -84,7 +84,7 @@ fn numbered(tables: &mut Tables, flow: FlowRef) -> Result<Instr, AllocError>
 }
 
 /// The same, of a form.
-#[tactic(auto, unfolding(crate::specs::Meant::meant))]
+#[tactic(auto, unfolding(crate::specs::DecodedInstructions::meant))]
 pub(crate) fn flow_instr(
     alloc: Global,
     tables: &mut Tables,
@@ -93,7 +93,7 @@ pub(crate) fn flow_instr(
     flow: &Flow<&Switch>,
 ) -> Result<Instr, AllocError>
     requires { AreCode ops.now }
-    ensures means { IfOk result (λ i. (p : Program) (class : ℕ) → meant p tables.new class i ≡ Instructions.flow ops.now at (Forms.seen_flow flow.now)) }
+    ensures means { IfOk result (λ i. (p : Program) (class : ℕ) → meant p tables.new class i ≡ IndexedInstructions.flow ops.now at (InstructionForms.seen_flow flow.now)) }
     ensures within { IfOk result (Within tables.new) }
     ensures exact { IfOk result (λ i. (p : Program) (types : List Ref) (class : ℕ) → Exact p types tables.new class i) }
     ensures grown { IfOk result (λ i. Grown tables.old tables.new) }

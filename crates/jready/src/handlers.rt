@@ -1,15 +1,15 @@
 ghost use Rattle.std.specs.Prelude.{◌≡◌, ℕ, IfOk, Some, nat_le, slice_get};
 ghost use Rattle.jparts.specs.declared.jcode.op.Placed.{Placed as Op};
 ghost use Rattle.jparts.specs.jcode.Instructions;
-ghost use Rattle.jmeaning.specs.juses.Numbered.{AreCode};
-ghost use Rattle.jmeaning.specs.juses.Tables.{Grows};
-ghost use Rattle.jready.specs.Handling.{AreHandlers, IsHandler};
-ghost use Rattle.jready.specs.Tabled.{AreThere, part};
+ghost use Rattle.jresolution.specs.juses.InternedInstructions.{AreCode};
+ghost use Rattle.jresolution.specs.juses.PoolTables.{Grows};
+ghost use Rattle.jready.specs.HandlerTables.{AreHandlers, IsHandler};
+ghost use Rattle.jready.specs.TableGrowth.{AreThere, part};
 
 use crate::tables::next_number;
 use jground::jbase::Seq;
-use jmeaning::juses::Span;
 use jparts::jcode::{Handler, Placed, place_of};
+use jresolution::juses::Span;
 use std::alloc::AllocError;
 
 /// A handler of a method (JVMS 2.10): the numbers from which and up to which its range reaches, the number at which it goes on, and the index

@@ -1,12 +1,12 @@
 ghost use Rattle.std.specs.Prelude.{◌≡◌};
-ghost use Rattle.jready.specs.Exact.{narrow};
+ghost use Rattle.jready.specs.InlineOperands.{narrow};
 
-use jground::jnames::{Division, OpOne, OpTwo, Shuffle};
-use jground::jops::{Value, one};
-use jheap::CellType;
 use jlib::{LibCall, LibClass};
-use jmeaning::juses::{How, Span, When};
+use jmemory::jheap::CellType;
 use jparts::jcode::{ArrayType, CastOp, Element, FieldOp, LocalForm, Returned};
+use jresolution::juses::{Condition, InvokeKind, Span};
+use jvalues::jnames::{Division, OpOne, OpTwo, Shuffle};
+use jvalues::jops::{Value, one};
 
 /// An instruction as it is executed (JVMS 6.5): it leads to others by their numbers in its method, and what its entry of the pool stands
 /// for was looked up. What is too large for it stands in tables, by number. `pool` is always the index of the entry in its class.
@@ -15,7 +15,7 @@ pub enum Instr {
     /// There is no step: behind each method, and in the place of an instruction with none behind it that would go on.
     Off,
     /// With operands alone.
-    Plain(Plain),
+    Plain(OperandOp),
     /// Pushes a constant of the pool.
     Push(Push),
     /// With a local.
@@ -43,7 +43,7 @@ pub enum Instr {
     },
     /// Calls a user's method.
     Call {
-        how: How,
+        how: InvokeKind,
         pool: u16,
         /// Where the types of its parameters stand.
         params: Span,
@@ -52,7 +52,7 @@ pub enum Instr {
     },
     /// Calls a method of the library.
     Library {
-        how: How,
+        how: InvokeKind,
         pool: u16,
         params: Span,
         call: LibCall,
@@ -61,7 +61,7 @@ pub enum Instr {
 
 /// With operands alone.
 #[derive(Clone, Copy, Debug)]
-pub enum Plain {
+pub enum OperandOp {
     Nothing,
     /// The null reference.
     Null,
@@ -87,7 +87,7 @@ pub enum Push {
 #[derive(Clone, Copy, Debug)]
 pub enum FlowInstr {
     /// At a number, where its test holds.
-    Jump(When, u32),
+    Jump(Condition, u32),
     Return(Returned),
     Throw,
 }
@@ -149,7 +149,7 @@ pub enum Narrow {
 impl Narrow {
     /// What is left of a value that is put there.
     #[inline]
-    #[tactic(auto, unfolding(jground::specs::jops::Operations::one))]
+    #[tactic(auto, unfolding(jvalues::specs::jops::Operations::one))]
     pub fn left(self, v: Value) -> Value
         ensures { result ≡ narrow self v }
     {

@@ -1,8 +1,8 @@
 ghost use Rattle.std.specs.Prelude.{◌≡◌, ◌≤ℤ◌, ◌+ℤ◌, map, pos, slice_get};
-ghost use Rattle.jmeaning.specs.juses.Numbered.{keyed_as, keys_from};
-ghost use Rattle.jmodel.specs.jmachine.Straight.{case_of};
+ghost use Rattle.jresolution.specs.juses.InternedInstructions.{keyed_as, keys_from};
+ghost use Rattle.jsemantics.specs.jmachine.BasicInstructions.{case_of};
 
-use jmeaning::juses::Key;
+use jresolution::juses::Key;
 
 /// How far a key stands behind the least.
 #[inline]
@@ -22,7 +22,7 @@ fn target_at(targets: &[u32], n: u32) -> Option<u32>
 
 /// Where a switch goes on for a key, by the targets of keys that rise by one from the least.
 #[inline]
-#[tactic(auto, using(crate::proofs::Switched::case_before, crate::proofs::Switched::case_at, crate::proofs::Switched::case_past))]
+#[tactic(auto, using(crate::proofs::SwitchTargets::case_before, crate::proofs::SwitchTargets::case_at, crate::proofs::SwitchTargets::case_past))]
 pub(crate) fn rising_to(low: i32, targets: &[u32], other: u32, key: i32) -> u32
     ensures { result ≡ case_of key (keys_from low targets.now) other }
 {
@@ -37,7 +37,7 @@ pub(crate) fn rising_to(low: i32, targets: &[u32], other: u32, key: i32) -> u32
 
 /// The same, by the cases of a switch.
 #[inline]
-#[tactic(auto, unfolding(jmodel::specs::jmachine::Straight::case_of))]
+#[tactic(auto, unfolding(jsemantics::specs::jmachine::BasicInstructions::case_of))]
 pub(crate) fn keyed_to(keys: &[Key], other: u32, key: i32) -> u32
     ensures { result ≡ case_of key (map keyed_as keys.now) other }
 {

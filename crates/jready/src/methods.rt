@@ -1,21 +1,21 @@
 ghost use Rattle.std.specs.Prelude.{◌≡◌, [], List, None, OnOk, Some};
-ghost use Rattle.jprogram.specs.Classes.{Program};
-ghost use Rattle.jmeaning.specs.declared.juses.types.TypeRef.{TypeRef as Ref};
-ghost use Rattle.jmeaning.specs.juses.Instructions;
-ghost use Rattle.jmeaning.specs.juses.Numbered.{AreCode, seen_code};
-ghost use Rattle.jmodel.specs.jmachine.Frames.{domain_of};
-ghost use Rattle.jready.specs.Known.{IsKnown};
-ghost use Rattle.jready.specs.Methods.{AreMethods, PutsMethod};
+ghost use Rattle.jresolution.specs.jprogram.ProgramClasses.{Program};
+ghost use Rattle.jresolution.specs.declared.juses.types.TypeRef.{TypeRef as Ref};
+ghost use Rattle.jresolution.specs.juses.IndexedInstructions;
+ghost use Rattle.jresolution.specs.juses.InternedInstructions.{AreCode, seen_code};
+ghost use Rattle.jsemantics.specs.jmachine.FrameOperations.{domain_of};
+ghost use Rattle.jready.specs.ProgramFacts.{IsKnown};
+ghost use Rattle.jready.specs.MethodTables.{AreMethods, PutsMethod};
 
 use crate::code::put_ops;
 use crate::handlers::{HandlerRow, put_handlers};
 use crate::instr::Instr;
-use crate::known::Known;
+use crate::program_info::ProgramInfo;
 use crate::tables::{Tables, next_number};
 use jground::jbase::Seq;
 use jlinking::jlink::LinkedProgram;
-use jmeaning::juses::{CodeRef, Span, code_at};
-use jprogram::MethodId;
+use jresolution::jprogram::MethodId;
+use jresolution::juses::{CodeRef, Span, code_at};
 use std::alloc::{AllocError, Global};
 
 /// A user's method.
@@ -66,9 +66,9 @@ impl Methods {
     }
 
     /// Puts a method without code behind the others.
-    fn put_bare(&mut self, known: &Known<'_>, id: MethodId) -> Result<(), AllocError>
+    fn put_bare(&mut self, known: &ProgramInfo<'_>, id: MethodId) -> Result<(), AllocError>
         requires are { AreMethods known.now.p.now known.now.uses.now.types self.old }
-        requires bare { Instructions.code_at known.now.p.now id ≡ None }
+        requires bare { IndexedInstructions.code_at known.now.p.now id ≡ None }
         ensures { OnOk result (PutsMethod known.now.p.now known.now.uses.now.types id self.old self.new) }
     {
         let first = next_number(self.code.as_slice().len())?;
@@ -93,14 +93,14 @@ impl Methods {
     fn put_coded(
         &mut self,
         alloc: Global,
-        known: &Known<'_>,
+        known: &ProgramInfo<'_>,
         id: MethodId,
         body: CodeRef<'_>,
     ) -> Result<(), AllocError>
         requires known { IsKnown known.now }
         requires are { AreMethods known.now.p.now known.now.uses.now.types self.old }
         requires code { AreCode body.ops.now }
-        requires own { Instructions.code_at known.now.p.now id ≡ Some (seen_code body) }
+        requires own { IndexedInstructions.code_at known.now.p.now id ≡ Some (seen_code body) }
         ensures { OnOk result (PutsMethod known.now.p.now known.now.uses.now.types id self.old self.new) }
     {
         let first = next_number(self.code.as_slice().len())?;
@@ -130,7 +130,7 @@ impl Methods {
     pub(crate) fn put(
         &mut self,
         alloc: Global,
-        known: &Known<'_>,
+        known: &ProgramInfo<'_>,
         id: MethodId,
     ) -> Result<(), AllocError>
         requires known { IsKnown known.now }

@@ -1,30 +1,30 @@
 ghost use Rattle.std.specs.Prelude.{◌≡◌, ◌<◌, ◌≤◌, IfOk, List, Option, Some, length, option_map, slice_get, ℕ};
 ghost use Rattle.jparts.specs.declared.jpool.entry.Entry.{Entry};
-ghost use Rattle.jparts.specs.declared.jcode.form.PoolForm.TheVariants as forms;
-ghost use Rattle.jprogram.specs.Classes.{Program};
-ghost use Rattle.jmeaning.specs.declared.juses.types.ArrayRef.{ArrayRef};
-ghost use Rattle.jmeaning.specs.declared.juses.types.TypeRef.{TypeRef as Ref};
-ghost use Rattle.jmeaning.specs.juses.Instructions.{Used};
-ghost use Rattle.jmeaning.specs.juses.Meanings;
-ghost use Rattle.jmeaning.specs.juses.Meanings.{array_meant, call_named, field_named, meaning_of, pushed_named};
-ghost use Rattle.jmeaning.specs.juses.Tables.{pool_at};
-ghost use Rattle.jmeaning.specs.juses.Types.{class_named, named};
-ghost use Rattle.jready.specs.Exact.{Exact};
-ghost use Rattle.jready.specs.Exact;
-ghost use Rattle.jready.specs.Known.{IsCall, IsKnown};
-ghost use Rattle.jready.specs.Laid.{PushWithin, Within};
-ghost use Rattle.jready.specs.Meant.{by_pool, call_form, meant, push_meant, pushed};
-ghost use Rattle.jready.specs.Only.{only_array, only_call, only_cast, only_field, only_made, only_push, user_place};
-ghost use Rattle.jready.specs.Tabled.{Grown};
+ghost use Rattle.jparts.specs.declared.jcode.op_form.PoolForm.TheVariants as forms;
+ghost use Rattle.jresolution.specs.jprogram.ProgramClasses.{Program};
+ghost use Rattle.jresolution.specs.declared.juses.types.ArrayRef.{ArrayRef};
+ghost use Rattle.jresolution.specs.declared.juses.types.TypeRef.{TypeRef as Ref};
+ghost use Rattle.jresolution.specs.juses.IndexedInstructions.{Used};
+ghost use Rattle.jresolution.specs.juses.InstructionMeanings;
+ghost use Rattle.jresolution.specs.juses.InstructionMeanings.{array_meant, call_named, field_named, meaning_of, pushed_named};
+ghost use Rattle.jresolution.specs.juses.PoolTables.{pool_at};
+ghost use Rattle.jresolution.specs.juses.InternedTypes.{class_named, named};
+ghost use Rattle.jready.specs.InlineOperands.{Exact};
+ghost use Rattle.jready.specs.InlineOperands;
+ghost use Rattle.jready.specs.ProgramFacts.{IsCall, IsKnown};
+ghost use Rattle.jready.specs.CodeLayout.{PushWithin, Within};
+ghost use Rattle.jready.specs.DecodedInstructions.{by_pool, call_form, meant, push_meant, pushed};
+ghost use Rattle.jready.specs.MeaningParts.{only_array, only_call, only_cast, only_field, only_made, only_push, user_place};
+ghost use Rattle.jready.specs.TableGrowth.{Grown};
 
 use crate::fields::narrow_at;
 use crate::instr::{Instr, ObjectInstr, Push};
-use crate::known::{Known, number_at};
+use crate::program_info::{ProgramInfo, number_at};
 use crate::tables::Tables;
-use jheap::CellType;
-use jmeaning::juses::{CallUse, Constant, FieldUse, How, Span, TypeRef, Use};
+use jmemory::jheap::CellType;
 use jparts::jcode::{CastOp, FieldOp, PoolForm};
-use jprogram::{ClassRef, Member};
+use jresolution::jprogram::{ClassRef, Member};
+use jresolution::juses::{CallUse, Constant, FieldUse, InvokeKind, Span, TypeRef, Use};
 use std::alloc::AllocError;
 
 // ---- constants
@@ -32,7 +32,7 @@ use std::alloc::AllocError;
 /// The constant that is pushed, if one is.
 fn constant_in(found: Option<Use>) -> Option<Constant>
     ensures { (p : Program) (pool : List Entry) (types : List Ref)
-        → option_map (λ c. Meanings.Push (pushed_named pool c)) result ≡ only_push (option_map (meaning_of p pool types) found) }
+        → option_map (λ c. InstructionMeanings.Push (pushed_named pool c)) result ≡ only_push (option_map (meaning_of p pool types) found) }
 {
     match found {
         Some(Use::Push(constant)) => Some(constant),
@@ -40,10 +40,10 @@ fn constant_in(found: Option<Use>) -> Option<Constant>
     }
 }
 
-fn constant_of(known: &Known<'_>, class: u32, form: PoolForm) -> Option<Constant>
+fn constant_of(known: &ProgramInfo<'_>, class: u32, form: PoolForm) -> Option<Constant>
     requires { IsKnown known.now }
-    ensures { option_map (λ c. Meanings.Push (pushed_named (pool_at known.now.p.now class) c)) result ≡ only_push
-        (Meanings.meant known.now.p.now (pool_at known.now.p.now class) form) }
+    ensures { option_map (λ c. InstructionMeanings.Push (pushed_named (pool_at known.now.p.now class) c)) result ≡ only_push
+        (InstructionMeanings.meant known.now.p.now (pool_at known.now.p.now class) form) }
 {
     let found = known.uses.use_at(class, form);
     constant_in(found)
@@ -64,15 +64,15 @@ fn push_of(tables: &mut Tables, constant: Constant) -> Result<Push, AllocError>
     }
 }
 
-#[tactic(auto, unfolding(crate::specs::Meant::meant))]
+#[tactic(auto, unfolding(crate::specs::DecodedInstructions::meant))]
 fn constant(
-    known: &Known<'_>,
+    known: &ProgramInfo<'_>,
     tables: &mut Tables,
     class: u32,
     form: PoolForm,
 ) -> Result<Instr, AllocError>
     requires known { IsKnown known.now }
-    requires pushes { only_push (Meanings.meant known.now.p.now (pool_at known.now.p.now class) form) ≡ Meanings.meant known.now.p.now (pool_at known.now.p.now class) form }
+    requires pushes { only_push (InstructionMeanings.meant known.now.p.now (pool_at known.now.p.now class) form) ≡ InstructionMeanings.meant known.now.p.now (pool_at known.now.p.now class) form }
     ensures means { IfOk result (λ i. meant known.now.p.now tables.new class i ≡ by_pool known.now.p.now (pool_at known.now.p.now class) form) }
     ensures within { IfOk result (Within tables.new) }
     ensures exact { IfOk result (Exact known.now.p.now known.now.uses.now.types tables.new class) }
@@ -97,9 +97,9 @@ fn field_in(found: Option<Use>) -> Option<FieldUse>
 }
 
 /// The field that an instruction of a class names.
-fn field_used(known: &Known<'_>, class: u32, op: FieldOp, pool: u16) -> Option<FieldUse>
+fn field_used(known: &ProgramInfo<'_>, class: u32, op: FieldOp, pool: u16) -> Option<FieldUse>
     requires { IsKnown known.now }
-    ensures { option_map (field_named known.now.p.now) result ≡ only_field (Meanings.meant known.now.p.now (pool_at known.now.p.now class) (forms.Field op pool)) }
+    ensures { option_map (field_named known.now.p.now) result ≡ only_field (InstructionMeanings.meant known.now.p.now (pool_at known.now.p.now class) (forms.Field op pool)) }
 {
     let found = known.uses.use_at(class, PoolForm::Field(op, pool));
     field_in(found)
@@ -116,7 +116,7 @@ fn place_of(field: Member) -> Option<(u32, u32)>
 }
 
 pub(crate) fn cell_of(t: TypeRef) -> CellType
-    ensures { (p : Program) → Exact.cell_of (named p t) ≡ result }
+    ensures { (p : Program) → InlineOperands.cell_of (named p t) ≡ result }
 {
     match t {
         TypeRef::Int => CellType::Int,
@@ -137,8 +137,8 @@ fn owner_of(class: ClassRef) -> u32
 }
 
 /// What is by number an instruction with the field of an entry.
-#[tactic(auto, unfolding(crate::specs::Meant::meant))]
-fn field_of(known: &Known<'_>, class: u32, op: FieldOp, pool: u16) -> Instr
+#[tactic(auto, unfolding(crate::specs::DecodedInstructions::meant))]
+fn field_of(known: &ProgramInfo<'_>, class: u32, op: FieldOp, pool: u16) -> Instr
     requires { IsKnown known.now }
     ensures means { (t : Tables) → meant known.now.p.now t class result ≡ by_pool known.now.p.now (pool_at known.now.p.now class) (forms.Field op pool) }
     ensures within { (t : Tables) → Within t result }
@@ -166,7 +166,7 @@ fn field_of(known: &Known<'_>, class: u32, op: FieldOp, pool: u16) -> Instr
 
 // ---- calls
 
-fn call_in(found: Option<Use>) -> Option<(How, CallUse)>
+fn call_in(found: Option<Use>) -> Option<(InvokeKind, CallUse)>
     ensures { (p : Program) (pool : List Entry) (types : List Ref)
         → option_map (λ x. (x.0, call_named p types x.1)) result ≡ only_call (option_map (meaning_of p pool types) found) }
 {
@@ -177,16 +177,16 @@ fn call_in(found: Option<Use>) -> Option<(How, CallUse)>
 }
 
 /// How a method is called by an instruction of a class, and which.
-fn call_used(known: &Known<'_>, class: u32, form: PoolForm) -> Option<(How, CallUse)>
+fn call_used(known: &ProgramInfo<'_>, class: u32, form: PoolForm) -> Option<(InvokeKind, CallUse)>
     requires { IsKnown known.now }
     ensures { option_map (λ x. (x.0, call_named known.now.p.now known.now.uses.now.types x.1)) result ≡ only_call
-        (Meanings.meant known.now.p.now (pool_at known.now.p.now class) form) }
+        (InstructionMeanings.meant known.now.p.now (pool_at known.now.p.now class) form) }
 {
     let found = known.uses.use_at(class, form);
     call_in(found)
 }
 
-fn call_to(how: How, pool: u16, params: Span, method: u32) -> Instr
+fn call_to(how: InvokeKind, pool: u16, params: Span, method: u32) -> Instr
     ensures { result ≡ Instr.Call how pool params method }
 {
     Instr::Call {
@@ -198,8 +198,8 @@ fn call_to(how: How, pool: u16, params: Span, method: u32) -> Instr
 }
 
 /// What is by number an instruction that calls the method of the entry at an index.
-#[tactic(auto, unfolding(crate::specs::Meant::meant))]
-fn call_of(known: &Known<'_>, class: u32, form: PoolForm, pool: u16) -> Instr
+#[tactic(auto, unfolding(crate::specs::DecodedInstructions::meant))]
+fn call_of(known: &ProgramInfo<'_>, class: u32, form: PoolForm, pool: u16) -> Instr
     requires known { IsKnown known.now }
     requires calls { IsCall form pool }
     ensures means { (t : Tables) → meant known.now.p.now t class result ≡ by_pool known.now.p.now (pool_at known.now.p.now class) form }
@@ -256,25 +256,25 @@ fn array_in(found: Option<Use>) -> Option<TypeRef>
 }
 
 /// The class of which the instruction of a class makes an object.
-fn made_used(known: &Known<'_>, class: u32, pool: u16) -> Option<ClassRef>
+fn made_used(known: &ProgramInfo<'_>, class: u32, pool: u16) -> Option<ClassRef>
     requires { IsKnown known.now }
-    ensures { option_map (class_named known.now.p.now) result ≡ only_made (Meanings.meant known.now.p.now (pool_at known.now.p.now class) (forms.New pool)) }
+    ensures { option_map (class_named known.now.p.now) result ≡ only_made (InstructionMeanings.meant known.now.p.now (pool_at known.now.p.now class) (forms.New pool)) }
 {
     let found = known.uses.use_at(class, PoolForm::New(pool));
     made_in(found)
 }
 
 /// The type for which the instruction of a class tests.
-fn cast_used(known: &Known<'_>, class: u32, op: CastOp, pool: u16) -> Option<TypeRef>
+fn cast_used(known: &ProgramInfo<'_>, class: u32, op: CastOp, pool: u16) -> Option<TypeRef>
     requires { IsKnown known.now }
-    ensures { option_map (named known.now.p.now) result ≡ only_cast (Meanings.meant known.now.p.now (pool_at known.now.p.now class) (forms.Cast op pool)) }
+    ensures { option_map (named known.now.p.now) result ≡ only_cast (InstructionMeanings.meant known.now.p.now (pool_at known.now.p.now class) (forms.Cast op pool)) }
 {
     let found = known.uses.use_at(class, PoolForm::Cast(op, pool));
     cast_in(found)
 }
 
 /// The type of the array that the instruction of a class makes.
-fn array_used(known: &Known<'_>, class: u32, pool: u16) -> Option<TypeRef>
+fn array_used(known: &ProgramInfo<'_>, class: u32, pool: u16) -> Option<TypeRef>
     requires { IsKnown known.now }
     ensures { option_map (named known.now.p.now) result ≡ only_array (array_meant known.now.p.now (pool_at known.now.p.now class) pool) }
 {
@@ -283,8 +283,8 @@ fn array_used(known: &Known<'_>, class: u32, pool: u16) -> Option<TypeRef>
 }
 
 /// What is by number an instruction that makes an object of the class at an index.
-#[tactic(auto, using(crate::proofs::Back::made_back, crate::proofs::Back::made_nothing), unfolding(crate::specs::Meant::meant))]
-fn make_of(known: &Known<'_>, class: u32, pool: u16) -> Instr
+#[tactic(auto, using(crate::proofs::EntryMeanings::made_back, crate::proofs::EntryMeanings::made_nothing), unfolding(crate::specs::DecodedInstructions::meant))]
+fn make_of(known: &ProgramInfo<'_>, class: u32, pool: u16) -> Instr
     requires { IsKnown known.now }
     ensures means { (t : Tables) → meant known.now.p.now t class result ≡ by_pool known.now.p.now (pool_at known.now.p.now class) (forms.New pool) }
     ensures within { (t : Tables) → Within t result }
@@ -298,8 +298,8 @@ fn make_of(known: &Known<'_>, class: u32, pool: u16) -> Instr
 }
 
 /// What is by number an instruction that tests for the type at an index.
-#[tactic(auto, using(crate::proofs::Back::cast_back), unfolding(crate::specs::Meant::meant))]
-fn cast_of(known: &Known<'_>, class: u32, op: CastOp, pool: u16) -> Instr
+#[tactic(auto, using(crate::proofs::EntryMeanings::cast_back), unfolding(crate::specs::DecodedInstructions::meant))]
+fn cast_of(known: &ProgramInfo<'_>, class: u32, op: CastOp, pool: u16) -> Instr
     requires { IsKnown known.now }
     ensures means { (t : Tables) → meant known.now.p.now t class result ≡ by_pool known.now.p.now (pool_at known.now.p.now class) (forms.Cast op pool) }
     ensures within { (t : Tables) → Within t result }
@@ -325,9 +325,9 @@ fn array_number(tables: &mut Tables, t: TypeRef) -> Result<u32, AllocError>
 }
 
 /// What is by number an instruction that makes an array of the class at an index.
-#[tactic(auto, unfolding(crate::specs::Meant::meant))]
+#[tactic(auto, unfolding(crate::specs::DecodedInstructions::meant))]
 pub(crate) fn array_of(
-    known: &Known<'_>,
+    known: &ProgramInfo<'_>,
     tables: &mut Tables,
     class: u32,
     pool: u16,
@@ -348,9 +348,9 @@ pub(crate) fn array_of(
 // ---- all
 
 /// What an instruction by an entry of the pool is by number.
-#[tactic(auto, unfolding(crate::specs::Meant::meant))]
+#[tactic(auto, unfolding(crate::specs::DecodedInstructions::meant))]
 pub(crate) fn pool_instr(
-    known: &Known<'_>,
+    known: &ProgramInfo<'_>,
     tables: &mut Tables,
     class: u32,
     form: PoolForm,

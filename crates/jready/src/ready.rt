@@ -1,35 +1,35 @@
 ghost use Rattle.std.specs.Prelude.{◌⊎◌, ◌≡◌, ◌+◌, ◌^◌, ◌<◌, ◌≤◌, ℕ, IfOk, IfSome, None, OnOk, Some, length, slice_get};
 ghost use Rattle.jtypes.specs.declared.vtype.VType.{VType};
-ghost use Rattle.jmeaning.specs.juses.Instructions;
-ghost use Rattle.jmeaning.specs.juses.Meanings.{spanned};
-ghost use Rattle.jmeaning.specs.juses.Tables.{Grows, pool_at};
-ghost use Rattle.jmeaning.specs.jlayout.Layouts.{AreLayouts};
-ghost use Rattle.jmeaning.specs.jlayout.Numbered.{all_statics};
-ghost use Rattle.jmodel.specs.jmachine.Steps.{fetched};
-ghost use Rattle.jmodel.specs.jmachine.Unwinding.{handler_at};
-ghost use Rattle.jready.specs.Exact.{Exact, IsNumbered};
-ghost use Rattle.jready.specs.Handling.{handled};
-ghost use Rattle.jready.specs.Known.{IsKnown};
-ghost use Rattle.jready.specs.Laid.{Within};
-ghost use Rattle.jready.specs.Meant.{meant};
-ghost use Rattle.jready.specs.Methods.{AreMethods};
-ghost use Rattle.jready.specs.Numbers.{AreFirsts};
-ghost use Rattle.jready.specs.Prepared.{AreNumbered, AreOwn, IsNumber, IsRow};
-ghost use Rattle.jready.specs.Shaped.{IsShape};
+ghost use Rattle.jresolution.specs.juses.IndexedInstructions;
+ghost use Rattle.jresolution.specs.juses.InstructionMeanings.{spanned};
+ghost use Rattle.jresolution.specs.juses.PoolTables.{Grows, pool_at};
+ghost use Rattle.jresolution.specs.jlayout.LayoutTables.{AreLayouts};
+ghost use Rattle.jresolution.specs.jlayout.InternedFields.{all_statics};
+ghost use Rattle.jsemantics.specs.jmachine.MachineSteps.{fetched};
+ghost use Rattle.jsemantics.specs.jmachine.Unwinding.{handler_at};
+ghost use Rattle.jready.specs.InlineOperands.{Exact, IsNumbered};
+ghost use Rattle.jready.specs.HandlerTables.{handled};
+ghost use Rattle.jready.specs.ProgramFacts.{IsKnown};
+ghost use Rattle.jready.specs.CodeLayout.{Within};
+ghost use Rattle.jready.specs.DecodedInstructions.{meant};
+ghost use Rattle.jready.specs.MethodTables.{AreMethods};
+ghost use Rattle.jready.specs.MethodNumbers.{AreFirsts};
+ghost use Rattle.jready.specs.PreparedPrograms.{AreNumbered, AreOwn, IsNumber, IsRow};
+ghost use Rattle.jready.specs.ClassShapes.{IsShape};
 ghost use Rattle.jready.specs.Statics.{AreStatics};
 
 use crate::handlers::HandlerRow;
 use crate::instr::Instr;
-use crate::known::Known;
 use crate::methods::{MethodRow, Methods};
+use crate::program_info::ProgramInfo;
 use crate::shapes::{Shape, shapes_of};
 use crate::statics::{StaticRow, statics_of};
 use crate::tables::{Tables, next_number};
 use jground::jbase::Seq;
 use jlinking::jlink::LinkedProgram;
-use jmeaning::jlayout::Layouts;
-use jmeaning::juses::{Span, TypeRef, Uses};
-use jprogram::MethodId;
+use jresolution::jlayout::Layouts;
+use jresolution::jprogram::MethodId;
+use jresolution::juses::{Span, TypeRef, Uses};
 use std::alloc::{AllocError, Global};
 use std::marker::Model;
 
@@ -48,7 +48,7 @@ pub struct Ready<'p> {
 }
 
 impl<'p> Model for Ready<'p> {
-    ghost use Rattle.jready.specs.Prepared.{IsReady, Prepared};
+    ghost use Rattle.jready.specs.PreparedPrograms.{IsReady, Prepared};
 
     ghost Value = { Prepared };
 
@@ -136,7 +136,7 @@ fn number_in(firsts: &[u32], rows: &[MethodRow], m: MethodId) -> Option<u32>
 /// Puts the methods of a class behind others.
 fn put_class(
     alloc: Global,
-    known: &Known<'_>,
+    known: &ProgramInfo<'_>,
     methods: &mut Methods,
     class: u32,
     count: u32,
@@ -155,7 +155,7 @@ fn put_class(
 }
 
 /// All methods of a program.
-fn methods_of(alloc: Global, known: &Known<'_>) -> Result<Methods, AllocError>
+fn methods_of(alloc: Global, known: &ProgramInfo<'_>) -> Result<Methods, AllocError>
     requires known { IsKnown known.now }
     ensures are { IfOk result (AreMethods known.now.p.now known.now.uses.now.types) }
     ensures numbered { IfOk result (λ m. AreNumbered known.now.p.now m.rows (length known.now.p.now.parts)) }
@@ -180,7 +180,7 @@ impl<'p> Ready<'p> {
         let shapes = shapes_of(alloc, program, &layouts)?;
         let statics = statics_of(alloc, program)?;
         let firsts = firsts_of(alloc, program)?;
-        let known = Known {
+        let known = ProgramInfo {
             p: program,
             uses,
             layouts: &layouts,
@@ -265,7 +265,7 @@ impl<'p> Ready<'p> {
     /// The number of a user's method. None only of one that has no code.
     pub fn number_of(&self, m: MethodId) -> Option<u32>
         ensures found { IfSome result (λ k. IsNumber self.now.methods.rows k m) }
-        ensures none { result ≡ None → Instructions.code_at self.now.program m ≡ None }
+        ensures none { result ≡ None → IndexedInstructions.code_at self.now.program m ≡ None }
     {
         number_in(self.firsts.as_slice(), self.methods.rows.as_slice(), m)
     }
@@ -310,11 +310,11 @@ impl<'p> Ready<'p> {
     }
 
     /// The row of a user's method. None only of one that has no code, so that there is no step in it.
-    #[tactic(auto, using(crate::proofs::Fetching::fetched_none))]
+    #[tactic(auto, using(crate::proofs::FetchedInstructions::fetched_none))]
     pub fn row_of(&self, m: MethodId) -> Option<MethodRow>
         ensures found { IfSome result (λ row. IsRow self.now row × (row.id ≡ m)) }
         ensures none { result ≡ None → (place : ℕ) → fetched self.now.program m place ≡ None }
-        ensures bare { result ≡ None → Instructions.code_at self.now.program m ≡ None }
+        ensures bare { result ≡ None → IndexedInstructions.code_at self.now.program m ≡ None }
     {
         match self.number_of(m) {
             Some(k) => self.called(k),

@@ -1,15 +1,15 @@
 ghost use Rattle.std.specs.Prelude.{◌≡◌, ◌<◌, ◌≤◌, IfOk, length};
-ghost use Rattle.jmeaning.specs.jlayout.Layouts.{AreLayouts};
-ghost use Rattle.jmodel.specs.jmachine.World.{can_be_thrown, world};
-ghost use Rattle.jready.specs.Shaped.{AreShapes, IsShape};
+ghost use Rattle.jresolution.specs.jlayout.LayoutTables.{AreLayouts};
+ghost use Rattle.jsemantics.specs.jmachine.World.{can_be_thrown, world};
+ghost use Rattle.jready.specs.ClassShapes.{AreShapes, IsShape};
 
 use crate::tables::next_number;
 use jground::jbase::Seq;
 use jlib::{LibClass, Thrown};
 use jlinking::jlink::LinkedProgram;
-use jmeaning::jlayout::Layouts;
-use jmeaning::juses::stands_below;
-use jprogram::ClassRef;
+use jresolution::jlayout::Layouts;
+use jresolution::jprogram::ClassRef;
+use jresolution::juses::stands_below;
 use std::alloc::{AllocError, Global};
 
 /// What the objects of a user's class hold.
@@ -21,7 +21,7 @@ pub struct Shape {
     pub message: bool,
 }
 
-#[tactic(auto, unfolding(jmodel::specs::jmachine::World::world))]
+#[tactic(auto, unfolding(jsemantics::specs::jmachine::World::world))]
 fn has_message(p: &LinkedProgram, class: u32) -> bool
     ensures { result ≡ can_be_thrown (world p.now) ((world p.now).named class) }
 {
@@ -29,7 +29,7 @@ fn has_message(p: &LinkedProgram, class: u32) -> bool
     stands_below(p.named(), ClassRef::User(class), throwable)
 }
 
-#[tactic(auto, using(crate::proofs::Shaping::fields_are, crate::proofs::Shaping::fields_there))]
+#[tactic(auto, using(crate::proofs::ClassShapes::fields_are, crate::proofs::ClassShapes::fields_there))]
 fn fields_in(p: &LinkedProgram, layouts: &Layouts, class: u32) -> u32
     requires layouts { AreLayouts p.now layouts.now }
     requires there { class < length p.now.parts }

@@ -1,16 +1,16 @@
 ghost use Rattle.std.specs.Prelude.{◌≡◌, ◌++◌, IfOk, List, OnOk, Some, option_and_then, option_map, slice_get, unwrap_or, ℕ};
 ghost use Rattle.std.specs.List.{flat_map};
-ghost use Rattle.jground.specs.jbase.First.{first_some};
+ghost use Rattle.jground.specs.jbase.FirstFaults.{first_some};
 ghost use Rattle.jclass.specs.declared.class.MemberInfo.{MemberInfo as Info};
-ghost use Rattle.jprogram.specs.declared.part.CodePart.{CodePart as Part};
-ghost use Rattle.jprogram.specs.Classes.{Program};
-ghost use Rattle.jmeaning.specs.juses.Tables.{pool_at};
-ghost use Rattle.jmeaning.specs.juses.Types.{named};
-ghost use Rattle.jmeaning.specs.jlayout.Kinds.{or_top};
-ghost use Rattle.jmeaning.specs.jlayout.Layout;
-ghost use Rattle.jmeaning.specs.jlayout.Numbered.{all_statics};
-ghost use Rattle.jmodel.specs.jmachine.Opening;
-ghost use Rattle.jready.specs.Exact;
+ghost use Rattle.jresolution.specs.declared.jprogram.part.CodePart.{CodePart as Part};
+ghost use Rattle.jresolution.specs.jprogram.ProgramClasses.{Program};
+ghost use Rattle.jresolution.specs.juses.PoolTables.{pool_at};
+ghost use Rattle.jresolution.specs.juses.InternedTypes.{named};
+ghost use Rattle.jresolution.specs.jlayout.FieldKinds.{or_top};
+ghost use Rattle.jresolution.specs.jlayout.FieldLayout;
+ghost use Rattle.jresolution.specs.jlayout.InternedFields.{all_statics};
+ghost use Rattle.jsemantics.specs.jmachine.OpeningState;
+ghost use Rattle.jready.specs.InlineOperands;
 ghost use Rattle.jready.specs.Statics;
 ghost use Rattle.jready.specs.Statics.{AreStatics, IsStatic, nothing, own_statics};
 
@@ -21,13 +21,13 @@ use crate::tables::next_number;
 use bitflags::Flags;
 use jclass::{Access, Attribute, ClassParts, MemberInfo};
 use jground::jbase::Seq;
-use jground::jops::Value;
-use jheap::CellType;
 use jlinking::jlink::LinkedProgram;
-use jmeaning::jlayout::held_type;
-use jmeaning::juses::TypeRef;
+use jmemory::jheap::CellType;
 use jparts::jpool::Entry;
-use jprogram::{CodePart, member_desc};
+use jresolution::jlayout::held_type;
+use jresolution::jprogram::{CodePart, member_desc};
+use jresolution::juses::TypeRef;
+use jvalues::jops::Value;
 use std::alloc::{AllocError, Global};
 
 /// What a static holds at first (JVMS 4.7.2): its constant, as a put would leave it, or else 0 or null.
@@ -48,9 +48,9 @@ pub struct StaticRow {
 }
 
 /// The index of a field's constant, where it has one.
-#[tactic(auto, unfolding(jground::specs::jbase::First::first_some))]
+#[tactic(auto, unfolding(jground::specs::jbase::FirstFaults::first_some))]
 fn constant_index(field: &MemberInfo) -> Option<u16>
-    ensures { result ≡ first_some Opening.value_in field.now.attributes }
+    ensures { result ≡ first_some OpeningState.value_in field.now.attributes }
 {
     for attribute in field.attributes.as_slice() {
         if let Attribute::ConstantValue { value, .. } = attribute {
@@ -72,7 +72,7 @@ fn nothing_in(cell: CellType) -> Value
 }
 
 fn cell_in(held: Option<TypeRef>) -> CellType
-    ensures { (p : Program) → Exact.cell_of (or_top (option_map (named p) held)) ≡ result }
+    ensures { (p : Program) → InlineOperands.cell_of (or_top (option_map (named p) held)) ≡ result }
 {
     match held {
         Some(t) => cell_of(t),
@@ -82,8 +82,8 @@ fn cell_in(held: Option<TypeRef>) -> CellType
 
 /// What a cell holds at first, by its field's constant.
 fn first_of(class: &ClassParts, cell: CellType, narrow: Narrow, constant: Option<u16>) -> First
-    ensures { (made : List (List ℕ × ℕ)) → Statics.first_in made class.now.pool cell result ≡ Exact.narrow narrow
-        (unwrap_or (Opening.value_of made class.now (option_and_then (slice_get class.now.pool) constant)) (nothing cell)) }
+    ensures { (made : List (List ℕ × ℕ)) → Statics.first_in made class.now.pool cell result ≡ InlineOperands.narrow narrow
+        (unwrap_or (OpeningState.value_of made class.now (option_and_then (slice_get class.now.pool) constant)) (nothing cell)) }
 {
     let Some(i) = constant else {
         return First::Known(nothing_in(cell));
@@ -113,7 +113,7 @@ fn row_of(
 }
 
 fn is_static(field: &MemberInfo) -> bool
-    ensures { result ≡ Layout.is_static field.now }
+    ensures { result ≡ FieldLayout.is_static field.now }
 {
     field.flags.contains(Access::STATIC)
 }

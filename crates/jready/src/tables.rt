@@ -1,13 +1,13 @@
 ghost use Rattle.std.specs.Prelude.{◌≡◌, ◌∷◌, ◌++◌, ◌+◌, [], ◌<◌, ◌≤◌, ℕ, ℤ, IfOk, List, Some, length, slice_get};
-ghost use Rattle.jmeaning.specs.juses.Instructions.{Switch};
-ghost use Rattle.jmodel.specs.jmachine.Straight.{case_of};
-ghost use Rattle.jready.specs.Meant.{lookup_meant, table_meant};
-ghost use Rattle.jready.specs.Tabled.{AreThere, Grown, part};
+ghost use Rattle.jresolution.specs.juses.IndexedInstructions.{Switch};
+ghost use Rattle.jsemantics.specs.jmachine.BasicInstructions.{case_of};
+ghost use Rattle.jready.specs.DecodedInstructions.{lookup_meant, table_meant};
+ghost use Rattle.jready.specs.TableGrowth.{AreThere, Grown, part};
 
 use crate::instr::{Lookup, Table};
 use crate::keyed::{keyed_to, rising_to};
 use jground::jbase::Seq;
-use jmeaning::juses::{ArrayRef, Key, Span};
+use jresolution::juses::{ArrayRef, Key, Span};
 use std::alloc::{AllocError, Global};
 
 /// What instructions name by number, as it is too large for them.

@@ -1,3 +1,3 @@
-pub mod JmovedProofs
-pub mod JmovefileProofs
+pub mod JmoveLawsProofs
+pub mod JmoveclassLawsProofs
 pub mod JrewriteProofs

@@ -1,3 +1,3 @@
-pub mod jmoved
-pub mod jmovefile
+pub mod jmove_laws
+pub mod jmoveclass_laws
 pub mod jrewrite

@@ -1,6 +1,6 @@
-pub mod Files
-pub mod Linking
-pub mod Members
-pub mod Parts
-pub mod Program
-pub mod References
+pub mod RewrittenFiles
+pub mod LinkageLaws
+pub mod MemberLaws
+pub mod RewrittenParts
+pub mod RewrittenPrograms
+pub mod ReferenceLaws

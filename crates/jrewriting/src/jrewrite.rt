@@ -1,10 +1,10 @@
 //! The moved program: each class moved (`jmoveclass`), in a program of the passing side that links, and its class files. The type of moved
 //! programs (`jmoving`) stands on it.
 //!
-//! - `Program`: the moved program, and the first limit that a program breaks.
-//! - `Linking`, `Members`, `References`: what moved programs keep of linking.
-//! - `Parts`: what its parts are.
-//! - `Files`: what holds of a moved program, and its class files, as they are stored.
+//! - `RewrittenPrograms`: the moved program, and the first limit that a program breaks.
+//! - `LinkageLaws`, `MemberLaws`, `ReferenceLaws`: what moved programs keep of linking.
+//! - `RewrittenParts`: what its parts are.
+//! - `RewrittenFiles`: what holds of a moved program, and its class files, as they are stored.
 //!
 //! Proved: `moved_parts` answers exactly the parts of the moved program, for a program of the source side that links and is well typed,
 //! where no limit is broken, and else the first: class by class, in each its methods in their order, and its pool last.
@@ -18,8 +18,6 @@
 //! program of one of the source side that links and is well typed, as a program that is linked without a second look, where no limit is
 //! broken, and else the first limit; `files_of` are the bytes that spell its parts, with the names of their classes and the numbers of
 //! their code sources, in its order.
-//!
-//! Rooms of moving, jobs and the top may name it.
 
 mod error;
 mod laws;

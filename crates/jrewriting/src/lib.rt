@@ -1,10 +1,10 @@
-//! The moved program, as rooms: laws of moved code (jmoved), that a moved class is a class file (jmovefile), and the program that is moved
-//! and links (jrewrite).
+//! The moved program, as rooms: laws of moved code (jmove_laws), that a moved class is a class file (jmoveclass_laws), and the program that is
+//! moved and links (jrewrite). It stands on the moving of one method (jmove) and of one class (jmoveclass).
 //!
-//! Each room is a module, whose head says what it holds, what is proved of it and who may name it; its definitions lie in `specs/` under its
-//! name, and so does its part of `proofs/`.
+//! Each room is a module, whose head says what it holds and what is proved of it; its definitions lie in `specs/` under its name, and so does
+//! its part of `proofs/`.
 #![tactic(auto)]
 
-pub mod jmoved;
-pub mod jmovefile;
+pub mod jmove_laws;
+pub mod jmoveclass_laws;
 pub mod jrewrite;

@@ -1,4 +1,4 @@
-pub mod Accesses
-pub mod Items
-pub mod Moves
-pub mod Ways
+pub mod ArrayAccesses
+pub mod ArrayOperands
+pub mod StackMoves
+pub mod RowOutcomes

@@ -1,8 +1,8 @@
 pub mod CallLaws
-pub mod Calling
-pub mod Marks
+pub mod MethodCalls
+pub mod FrameMarks
 pub mod Readiness
 pub mod Returns
-pub mod Telling
+pub mod MessageThrows
 pub mod Throws
 pub mod Unwinds

@@ -1,6 +1,6 @@
-pub mod Branching
-pub mod Fielded
-pub mod Made
-pub mod Serving
-pub mod Staying
-pub mod Stored
+pub mod ReferenceBranches
+pub mod FieldCells
+pub mod NewObjects
+pub mod EntryOperands
+pub mod RowFrames
+pub mod StoredReferences

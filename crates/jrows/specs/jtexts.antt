@@ -1,7 +1,7 @@
-pub mod Constants
+pub mod MadeStrings
 pub mod HeapBuilders
 pub mod HeapTexts
 pub mod Messages
-pub mod Printed
-pub mod Rans
-pub mod Shown
+pub mod PrintEvents
+pub mod TextCallOutcomes
+pub mod PrintedValues

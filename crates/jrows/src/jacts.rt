@@ -2,16 +2,14 @@
 //! the stack, load, store and increment locals, and load from and store numbers into arrays, make arrays of numbers and tell their
 //! length.
 //!
-//! - `Ways`: what a row came to, by what the machine's definition says that its instruction does, whatever the rules and the place are
+//! - `RowOutcomes`: what a row came to, by what the machine's definition says that its instruction does, whatever the rules and the place are
 //!   (`Does`), or with the stores before and behind it told (`Acts`).
-//! - `Items`, `Accesses`: arrays as operands, and their items.
-//! - `Moves`: the newest items of the stack, and what comes in their place.
+//! - `ArrayOperands`, `ArrayAccesses`: arrays as operands, and their items.
+//! - `StackMoves`: the newest items of the stack, and what comes in their place.
 //!
 //! Proved: each row is jmachine's row of its instruction: where that goes on, jumps, raises or is stuck, so does the row, and of
 //! exceptions it raises the one that the definition names first; where it raises or finds too few cells it has changed nothing (`Rests`);
 //! the frames below are left as they are, and what holds of the pieces of builders and of the objects' cells stays.
-//!
-//! Rooms of the machine may name it.
 
 mod access;
 mod arrays;

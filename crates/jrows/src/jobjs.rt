@@ -1,18 +1,16 @@
 //! What instructions with objects do, by numbers, one function a row, in place: `getfield`, `putfield`, `getstatic` (`System.out` too),
 //! `putstatic`, `checkcast`, `instanceof`, `athrow`, `new`, `anewarray`, `aastore`, and branches that test references.
 //!
-//! - `Serving`: what a row is told by its caller, who has the program's tables: whether the operands serve for what the entry of the
+//! - `EntryOperands`: what a row is told by its caller, who has the program's tables: whether the operands serve for what the entry of the
 //!   pool wants, and whether an object is one of a type.
-//! - `Fielded`: slots of fields, and the types of their cells.
-//! - `Made`: what `new` makes, by the shapes of users' classes.
-//! - `Branching`: which references a branch tests.
-//! - `Stored`: what a store of a reference is told and leaves, the index before the class of what is stored.
-//! - `Staying`: where a frame stands behind a row.
+//! - `FieldCells`: slots of fields, and the types of their cells.
+//! - `NewObjects`: what `new` makes, by the shapes of users' classes.
+//! - `ReferenceBranches`: which references a branch tests.
+//! - `StoredReferences`: what a store of a reference is told and leaves, the index before the class of what is stored.
+//! - `RowFrames`: where a frame stands behind a row.
 //!
 //! Proved: each row is jmachine's row of its instruction wherever what it is told is so (`ActsWhere`); what holds of the pieces of
 //! builders and of the objects' cells stays.
-//!
-//! Rooms of the machine may name it.
 
 mod arrays;
 mod branching;

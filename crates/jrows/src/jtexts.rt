@@ -3,18 +3,16 @@
 //! are gathered where its text is asked for, Object's constructor, Throwable's constructors and `getMessage`, and constants, of which a
 //! string is made when it is first loaded.
 //!
-//! - `Rans`: what a call of the library came to.
+//! - `TextCallOutcomes`: what a call of the library came to.
 //! - `HeapTexts`: the texts of the heap, and new ones.
-//! - `Shown`, `Printed`: what values are printed as.
+//! - `PrintedValues`, `PrintEvents`: what values are printed as.
 //! - `HeapBuilders`: builders of the heap, and the pieces that they hold.
-//! - `Constants`: strings that are made, constants and others.
+//! - `MadeStrings`: strings that are made, constants and others.
 //! - `Messages`: the messages of objects that can be thrown.
 //!
 //! Proved: each function is the row that jmachine's definition names for its member, for whatever the heap stands for, and keeps what holds
 //! of the pieces of builders and of the objects' cells. `cells_laws`: the cells that some of them want, a builder's for its last piece and
 //! those for messages, follow from that.
-//!
-//! Rooms of the machine may name it.
 
 mod builders;
 mod cells;

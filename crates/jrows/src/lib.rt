@@ -1,6 +1,4 @@
 //! Rows of instructions by number, as rooms: values and locals (jacts), texts (jtexts), objects (jobjs) and calls (jcalls).
-//!
-//! Each room is a module, whose head says what it holds, what is proved of it and who may name it; its definitions lie in `specs/` under its
 //! name, and so does its part of `proofs/`.
 #![tactic(auto)]
 

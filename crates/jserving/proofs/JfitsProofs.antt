@@ -1,4 +1,4 @@
-pub mod Comparing
-pub mod Kinded
-pub mod Lining
-pub mod Upward
+pub mod TypeFits
+pub mod ClassKinds
+pub mod ClassRows
+pub mod SuperclassWalks

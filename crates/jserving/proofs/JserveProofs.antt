@@ -1,7 +1,7 @@
-pub mod Called
-pub mod Casting
-pub mod Few
-pub mod Fielding
-pub mod Stored
-pub mod Valuing
-pub mod Wanting
+pub mod CallOperands
+pub mod ReferenceTypes
+pub mod OperandCounts
+pub mod FieldOperands
+pub mod ArrayStores
+pub mod ValueTypes
+pub mod FittingOperands

@@ -1,4 +1,4 @@
 pub mod JfitsProofs
-pub mod JserveProofs
 pub mod JinvokeProofs
-pub mod JshapesProofs
+pub mod JserveProofs
+pub mod JcellsProofs

@@ -1,4 +1,4 @@
 pub mod jfits
-pub mod jserve
 pub mod jinvoke
-pub mod jshapes
+pub mod jserve
+pub mod jcells

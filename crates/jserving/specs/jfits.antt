@@ -1,2 +1,2 @@
-pub mod Asked
-pub mod Lined
+pub mod TypeQueries
+pub mod SubtypeTables

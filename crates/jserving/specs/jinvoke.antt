@@ -1,7 +1,7 @@
 pub mod Answers
-pub mod Asked
-pub mod Faces
-pub mod Invoking
-pub mod Laws
-pub mod Sites
-pub mod Told
+pub mod CallQueries
+pub mod InterfaceCalls
+pub mod InvokeOutcomes
+pub mod InvokeLaws
+pub mod CallSiteCache
+pub mod HandlerLookUps

@@ -1,4 +1,4 @@
-pub mod Valued
-pub mod Served
-pub mod Calls
-pub mod Storing
+pub mod ValueTypes
+pub mod OperandChecks
+pub mod CallOperandChecks
+pub mod StoreTargets

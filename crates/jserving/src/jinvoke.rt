@@ -3,19 +3,17 @@
 //! beside it, with the class by which its entry names the method, and others by the entry that names the method and the class of the object.
 //! So is what was asked about the `run` of an action or of a thread, by the class of the object.
 //!
-//! - `Faces`: what a call by an interface of the library comes to that the machine makes itself, such as that of an action's `run`.
+//! - `InterfaceCalls`: what a call by an interface of the library comes to that the machine makes itself, such as that of an action's `run`.
 //! - `Answers`: what is known of a call: what is selected, whether it has code and how many locals and operands its frames have at most,
 //!   whether the object's class has the interface, and whether what is selected isn't public.
-//! - `Invoking`: what a step comes to that calls.
-//! - `Asked`: what is asked and remembered, and where its answers are looked for.
-//! - `Sites`: what is remembered beside the sites of calls.
-//! - `Told`, `Laws`: what the laws say.
+//! - `InvokeOutcomes`: what a step comes to that calls.
+//! - `CallQueries`: what is asked and remembered, and where its answers are looked for.
+//! - `CallSiteCache`: what is remembered beside the sites of calls.
+//! - `HandlerLookUps`, `InvokeLaws`: what the laws say.
 //!
 //! Proved: `ThrownAs` tells of every frame where the machine's definition goes on; an answer is what the definition selects and asks,
 //! whether it was remembered or not; `invoke` comes to what the machine's step does, whatever the rules and the state are, where the
 //! operands serve; and what a class by the heap's number is.
-//!
-//! Rooms of the machine may name it.
 
 mod answers;
 mod asked;
@@ -23,8 +21,8 @@ mod catching;
 mod choosing;
 mod faces;
 mod invoking;
-mod known;
 mod laws;
+mod method_lookup;
 mod sites;
 
 pub use answers::Calls;
@@ -32,6 +30,6 @@ pub use asked::Face;
 pub use catching::{ThrownAs, told_law};
 pub use choosing::{Answer, CallKey, Chosen, number_of};
 pub use faces::Target;
-pub use jmodel::jstate::class_numbered;
-pub use known::Known;
+pub use jruntime::jstate::class_numbered;
 pub use laws::{class_laws, step_laws, within_laws};
+pub use method_lookup::MethodLookup;

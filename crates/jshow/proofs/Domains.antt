@@ -5,7 +5,7 @@ use Rattle.std.proofs.Math.Seq.{drop-cons}
 use Rattle.std.proofs.Math.ListN.{drop_of_length-le}
 use Rattle.std.proofs.lemmas.List.{append-nil}
 use Rattle.url.specs.Parts.{Parts}
-use Rattle.jground.specs.jbase.Causes.{appended, IsCut}
+use Rattle.jground.specs.jbase.FaultCauses.{appended, IsCut}
 use Rattle.jground.proofs.JbaseProofs.Cuts.{appended_both, appended_nil, cut_more, cut_then}
 use Rattle.jperm.specs.declared.permission.Permission.{Permission}
 use Rattle.jshow.specs.Listings.{domain_lines, listing}

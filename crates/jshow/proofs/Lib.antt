@@ -1,3 +1,3 @@
 pub mod Domains
-pub mod Items
+pub mod ItemLines
 pub mod Lines

@@ -1,13 +1,13 @@
 -- Lines that were written, and lines that were cut.
 use Rattle.std.proofs.Common.{◌≡◌, ◌≤◌, ℕ, ◌++◌, List, Option, Result, Ok, Err, ap, arith}
 use Rattle.std.proofs.lemmas.Result.{on_err_weaker, on_ok_weaker}
-use Rattle.jground.specs.jbase.Causes.{HasCause, IsCut, appended}
+use Rattle.jground.specs.jbase.FaultCauses.{HasCause, IsCut, appended}
 use Rattle.jground.proofs.JbaseProofs.Cuts.{cut_at, cut_then, then_whole}
-use Rattle.jrights.specs.jio.Puts.{IsCutAt}
-use Rattle.jrights.specs.declared.jtrace.fault.RunFault.{RunFault}
-use Rattle.jrights.specs.declared.jtrace.fault.RunFault.TheVariants.{Sink}
+use Rattle.joutput.specs.jio.PartialOutput.{IsCutAt}
+use Rattle.joutput.specs.declared.jtrace.fault.RunFault.{RunFault}
+use Rattle.joutput.specs.declared.jtrace.fault.RunFault.TheVariants.{Sink}
 use Rattle.jshow.specs.declared.status.Status.TheVariants.{WriteFault}
-use Rattle.jshow.specs.Answering.{Answer, Puts, Shows}
+use Rattle.jshow.specs.CommandAnswers.{Answer, Puts, Shows}
 
 pub cut_line : (old new : Option (List ℕ)) (bytes : List ℕ) (written : ℕ) → IsCutAt old new bytes written → IsCut old new bytes
 cut_line old new bytes written h = cut_at old new bytes written h.out

@@ -1,5 +1,5 @@
-pub mod Answering
-pub mod Counting
+pub mod CommandAnswers
+pub mod CheckCounts
 pub mod Listings
 pub mod Refusals
 pub mod Statuses

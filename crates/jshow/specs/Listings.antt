@@ -4,7 +4,7 @@ use Rattle.std.specs.List.{flat_map}
 use Rattle.url.specs.Parts.{Parts, serialize}
 use Rattle.jperm.specs.declared.permission.Permission.{Permission}
 use Rattle.jperm.specs.declared.permission.Permission.TheVariants.{Unresolved}
-use Rattle.jperm.specs.Texts.{text_of}
+use Rattle.jperm.specs.PermissionTexts.{text_of}
 use Rattle.jshow.specs.Refusals.{text_line}
 
 -- what a permission's line begins with

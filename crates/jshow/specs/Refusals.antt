@@ -1,11 +1,11 @@
 -- The lines of refusals.
 use Rattle.std.specs.Prelude.{ℕ, List, ◌++◌, Option, Some, None, codes, decimal}
-use Rattle.jrights.specs.jio.Text.{written}
+use Rattle.joutput.specs.jio.TextOutput.{written}
 use Rattle.jground.specs.jtext.Texts.{units_of_text}
 use Rattle.jclass.specs.declared.fault.ClassFault.{ClassFault}
 use Rattle.jclass.specs.declared.fault.ClassFault.TheVariants as kinds
-use Rattle.jprogram.specs.declared.fault.LinkKind.{LinkKind}
-use Rattle.jprogram.specs.declared.fault.LinkKind.TheVariants as links
+use Rattle.jresolution.specs.declared.jprogram.fault.LinkKind.{LinkKind}
+use Rattle.jresolution.specs.declared.jprogram.fault.LinkKind.TheVariants as links
 use Rattle.jmoveclass.specs.declared.limit.RewriteKind.{RewriteKind}
 use Rattle.jmoveclass.specs.declared.limit.RewriteKind.TheVariants as limits
 use Rattle.jpolicy.specs.declared.fault.PolicyFault.{PolicyFault}

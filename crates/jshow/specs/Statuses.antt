@@ -1,7 +1,7 @@
 -- The statuses with which the program ends.
 use Rattle.std.specs.Prelude.{ℕ}
-use Rattle.jrights.specs.declared.jtrace.event.End.{End}
-use Rattle.jrights.specs.declared.jtrace.event.End.TheVariants as ends
+use Rattle.joutput.specs.declared.jtrace.event.End.{End}
+use Rattle.joutput.specs.declared.jtrace.event.End.TheVariants as ends
 use Rattle.jshow.specs.declared.status.Status.{Status}
 use Rattle.jshow.specs.declared.status.Status.TheVariants as statuses
 

@@ -1,10 +1,10 @@
 ghost use Rattle.std.specs.Prelude.{◌≡◌, IfSome, length};
-ghost use Rattle.jshow.specs.Answering.{Shows, listed};
-ghost use Rattle.jshow.specs.Counting.{checked_line, methods_in, methods_of};
+ghost use Rattle.jshow.specs.CommandAnswers.{Shows, listed};
+ghost use Rattle.jshow.specs.CheckCounts.{checked_line, methods_in, methods_of};
 
 use crate::status::Status;
-use jprogram::{CodePart, has_code};
-use jrights::jio::{Part, Sink, write_line};
+use joutput::jio::{Part, Sink, write_line};
+use jresolution::jprogram::{CodePart, has_code};
 
 /// How many methods of a class have code.
 fn methods_in(part: &CodePart) -> usize

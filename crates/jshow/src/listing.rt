@@ -1,14 +1,14 @@
 ghost use Rattle.std.specs.Prelude.{◌≡◌, ◌<◌, ◌^◌, IfOk, length};
-ghost use Rattle.jrights.specs.jio.LineOf.{line_of, room_of};
-ghost use Rattle.jshow.specs.Answering.{Puts};
+ghost use Rattle.joutput.specs.jio.LineParts.{line_of, room_of};
+ghost use Rattle.jshow.specs.CommandAnswers.{Puts};
 ghost use Rattle.jshow.specs.Refusals.{text_line};
 ghost use Rattle.jshow.specs.Listings.{domain_line, domain_lines, listing, permission_line, permission_lines, permission_units, permission_word};
 
+use jdomain::{CodeSource, Domains};
 use jground::jtext::Units;
+use joutput::jio::{Part, Sink, write_line};
+use joutput::jtrace::RunFault;
 use jperm::Permission;
-use jrights::jdomain::{CodeSource, Domains};
-use jrights::jio::{Part, Sink, write_line};
-use jrights::jtrace::RunFault;
 use std::alloc::{AllocError, Global};
 
 /// The most units of a permission in a line.

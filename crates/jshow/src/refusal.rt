@@ -3,7 +3,7 @@ use jground::jtext::Units;
 use jjob::Text;
 use jmoveclass::RewriteKind;
 use jpolicy::PolicyFault;
-use jprogram::LinkKind;
+use jresolution::jprogram::LinkKind;
 
 /// What is refused.
 #[rattlefmt::skip]

@@ -1,7 +1,7 @@
 ghost use Rattle.std.specs.Prelude.{◌≡◌, ◌<◌, ◌^◌, IfSome, length};
-ghost use Rattle.jrights.specs.jio.LineOf.{line_of, part_of, part_room, room_of};
-ghost use Rattle.jrights.specs.jio.Text.{written};
-ghost use Rattle.jshow.specs.Answering.{Shows, refused_answer};
+ghost use Rattle.joutput.specs.jio.LineParts.{line_of, part_of, part_room, room_of};
+ghost use Rattle.joutput.specs.jio.TextOutput.{written};
+ghost use Rattle.jshow.specs.CommandAnswers.{Shows, refused_answer};
 ghost use Rattle.jshow.specs.declared.refusal.Refusal.TheVariants as refusals;
 ghost use Rattle.jshow.specs.Refusals.{check_text, member_or_dash, refusal_line, text_line};
 ghost use Rattle.jshow.specs.Refusals.{class_opcode, class_text, class_word, limit_size, limit_word, link_text, link_word, policy_word, rewrite_text};
@@ -12,9 +12,9 @@ use jclass::ClassFault;
 use jground::jtext::Units;
 use jjob::Text;
 use jmoveclass::RewriteKind;
+use joutput::jio::{Part, Sink, write_line};
 use jpolicy::PolicyFault;
-use jprogram::LinkKind;
-use jrights::jio::{Part, Sink, write_line};
+use jresolution::jprogram::LinkKind;
 use std::alloc::Global;
 
 /// The most units of a name in a refusal.

@@ -1,7 +1,7 @@
 ghost use Rattle.std.specs.Prelude.{◌≡◌};
 ghost use Rattle.jshow.specs.Statuses.{number, status_of};
 
-use jrights::jtrace::End;
+use joutput::jtrace::End;
 
 /// How the program ends.
 #[derive(Clone, Copy, Debug, PartialEq, Eq)]

@@ -1,5 +1,5 @@
-pub mod Standing
-pub mod Settled
-pub mod Left
-pub mod Raised
-pub mod Ready
+pub mod ThreadFrames
+pub mod StepOutcomes
+pub mod IntermediateMachines
+pub mod RaisedExceptions
+pub mod ReadyMachines

@@ -1,7 +1,7 @@
-pub mod Distinct
-pub mod Flat
-pub mod Firsts
-pub mod Loading
-pub mod Making
-pub mod Seeing
-pub mod Suiting
+pub mod DistinctTexts
+pub mod StaticLists
+pub mod StaticRows
+pub mod StringLoads
+pub mod StringCreation
+pub mod InitialHeap
+pub mod InitialStatics

@@ -1,8 +1,8 @@
-pub mod Executed
-pub mod Following
-pub mod Invoked
-pub mod Leaving
-pub mod Meaning
-pub mod Numbers
-pub mod Settled
-pub mod Staying
+pub mod InstructionSteps
+pub mod RowSimulation
+pub mod CallSteps
+pub mod ObjectPreservation
+pub mod RowMeanings
+pub mod PoolNumbers
+pub mod RowCompletion
+pub mod RowExceptions

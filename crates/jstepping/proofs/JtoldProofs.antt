@@ -1,4 +1,4 @@
-pub mod Below
-pub mod Receiving
-pub mod Reached
-pub mod Told
+pub mod ThrowableClasses
+pub mod InitReceivers
+pub mod LibraryDispatch
+pub mod MessageReceivers

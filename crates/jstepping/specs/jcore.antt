@@ -1,5 +1,5 @@
-pub mod Machines
-pub mod Comings
-pub mod Answering
-pub mod Left
-pub mod Raising
+pub mod MachineInvariants
+pub mod MachineOutcomes
+pub mod AnsweredCalls
+pub mod MidStepMachines
+pub mod RaiseOutcomes

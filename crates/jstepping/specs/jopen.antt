@@ -1,4 +1,4 @@
-pub mod Begun
-pub mod Opened
-pub mod Rows
-pub mod Texts
+pub mod InitialHeaps
+pub mod InitialMachines
+pub mod StaticRows
+pub mod OpeningTexts

@@ -1,3 +1,3 @@
-pub mod Naming
-pub mod References
-pub mod Seen
+pub mod NamedEntries
+pub mod ReferenceRows
+pub mod RowInvariance

@@ -1,4 +1,4 @@
-pub mod Behind
-pub mod Rows
-pub mod Serving
-pub mod Stepping
+pub mod RowSuccessors
+pub mod InstructionRows
+pub mod HeapOperands
+pub mod StepRelation

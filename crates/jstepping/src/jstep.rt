@@ -4,10 +4,10 @@
 //! control; no other step asks anything. The rows of loads are those of jconstants, and the rows of instructions with references those
 //! of jrefs.
 //!
-//! - `Rows`: which instructions are here, and what it means that one by number did what it stands for, whatever the program is seen as.
-//! - `Behind`: what a step comes to behind a row of `jacts` or `jobjs`, by the frames below.
-//! - `Serving`: whether the operands of a call or a throw serve.
-//! - `Stepping`: what a step by number came to, for whatever rules give the frames' marks, and what stands while a program runs.
+//! - `InstructionRows`: which instructions are here, and what it means that one by number did what it stands for, whatever the program is seen as.
+//! - `RowSuccessors`: what a step comes to behind a row of `jacts` or `jobjs`, by the frames below.
+//! - `HeapOperands`: whether the operands of a call or a throw serve.
+//! - `StepRelation`: what a step by number came to, for whatever rules give the frames' marks, and what stands while a program runs.
 //!
 //! Proved: `behind_laws`: where a row did what the instruction of the newest frame does, jmachine's step is what is made of what the
 //! row left: the thread goes on, an exception is raised for its cells, an object is thrown, the run ends as heap full with nothing
@@ -16,30 +16,28 @@
 //! every rules whose marks are the ones kept, where the state's frames and store are those that the frames and the heap stand for, and
 //! the instruction stands for the one that the machine finds there. Where the thread goes on, the frames below the newest may go on
 //! behind their calls, and the newest is of a class of the program.
-//!
-//! Rooms of the machine may name it.
 
 mod arrays;
 mod calling;
 mod computing;
-mod fixed;
 mod jumps;
 mod laws;
 mod outcomes;
 mod raising;
 mod returning;
 mod rows;
+mod run_tables;
 mod settling;
 mod stepping;
 mod throwing;
 
 pub use arrays::array;
 pub use computing::{plain, push};
-pub use fixed::Fixed;
 pub use jumps::{flow, jump, lookup, table};
 pub use laws::behind_laws;
 pub use outcomes::Stepped;
 pub use raising::{settle_raised, settle_thrown, thrown_class};
 pub use rows::run;
+pub use run_tables::RunTables;
 pub use settling::{settle, settle_call};
 pub use stepping::step;

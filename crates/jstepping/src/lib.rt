@@ -1,7 +1,5 @@
 //! A machine's step by number, as rooms: the rows of steps (jstep), references (jrefs), opening (jopen), what is told (jtold) and the machine
 //! itself (jcore).
-//!
-//! Each room is a module, whose head says what it holds, what is proved of it and who may name it; its definitions lie in `specs/` under its
 //! name, and so does its part of `proofs/`.
 #![tactic(auto)]
 

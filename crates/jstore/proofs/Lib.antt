@@ -1,5 +1,5 @@
 pub mod Binds
-pub mod Holding
+pub mod MadeFiles
 mod MadePaths
 pub mod Names
 pub mod StoredFiles

@@ -5,10 +5,10 @@ use Rattle.std.proofs.lemmas.Fmt.{IsAscii-decimal}
 use Rattle.std.proofs.lemmas.Str.{IsUtf8-append, IsUtf8-from_ascii}
 use Rattle.jgen.specs.declared.draws.Kind.{Kind}
 use Rattle.jgen.specs.declared.making.MadeFile.{MadeFile}
-use Rattle.jgen.specs.Classes.{name}
+use Rattle.jgen.specs.GeneratedClasses.{name}
 use Rattle.jgen.specs.Draws.{kinds}
-use Rattle.jgen.specs.Files.{class_files, made_job, path}
-use Rattle.jgen.proofs.Drawing.{all_length}
+use Rattle.jgen.specs.GeneratedFiles.{class_files, made_job, path}
+use Rattle.jgen.proofs.DrawnKinds.{all_length}
 
 letter_utf8 : IsUtf8 (codes "G")
 unfolding lib.Utf8.encode

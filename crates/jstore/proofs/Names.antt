@@ -2,10 +2,10 @@
 use Rattle.std.proofs.Common.{◌≡◌, ℕ, ◌^◌, ◌<◌, ◌==◌, false, All, List, ◌++◌, IsUtf8, codes, decimal, length, arith, length-append}
 use Rattle.std.proofs.lemmas.List.Elements.{All-append, All-from_recursion}
 use Rattle.std.proofs.lemmas.Str.{IsUtf8-append, IsUtf8-from_ascii}
-use Rattle.jrights.specs.jio.Text.{written}
-use Rattle.jagain.specs.Again.{IsName}
+use Rattle.joutput.specs.jio.TextOutput.{written}
+use Rattle.jjob_laws.specs.StoredJobs.{IsName}
 use Rattle.jstore.specs.Folders.{class_path, place_of}
-use Rattle.jstages.specs.Linking.{units_in}
+use Rattle.jtasks.specs.jstages.LinkStage.{units_in}
 use Rattle.jstore.proofs.Units.{AllPrint, Prints, Small, decimal_prints, is_ascii, no_feeds, print_both, units_small, written_prints}
 
 prints : (b : ℕ) → 32 < b → b < 126 → Prints b

@@ -3,12 +3,12 @@ use Rattle.std.proofs.Common.{◌≡◌, ℕ, suc, ◌+◌, ◌<◌, List, [], �
 use Rattle.std.specs.Prelude.{codes, option_map}
 use Rattle.std.proofs.Math.Seq.{drop-cons}
 use Rattle.std.proofs.lemmas.List.{map-append, take-append-drop, take_more}
-use Rattle.jrights.specs.jio.Held.{File, SameElsewhere, stored}
-use Rattle.jjob.specs.Storing.{stored_job}
+use Rattle.joutput.specs.jio.ShelfFiles.{File, SameElsewhere, stored}
+use Rattle.jjob.specs.StoredJobText.{stored_job}
 use Rattle.jrewriting.specs.declared.jrewrite.rewritten.OutFile.{OutFile}
 use Rattle.jstore.specs.declared.storing.NewFile.{NewFile}
 use Rattle.jstore.specs.Folders.{all_below, class_below, job_below, path_of}
-use Rattle.jstore.specs.Storing.{SameBut, StoresFront, seen, stored_all, with_files}
+use Rattle.jstore.specs.FileWrites.{SameBut, StoresFront, seen, stored_all, with_files}
 
 -- ---- nothing
 

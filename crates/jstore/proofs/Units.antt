@@ -7,12 +7,12 @@ use Rattle.std.specs.List.{AllByRecursion}
 use Rattle.std.specs.Str.{byte}
 use Rattle.std.proofs.lemmas.Fmt.{decimal_by_steps}
 use Rattle.jground.specs.declared.jformat.error.Fault.{Fault}
-use Rattle.jground.specs.jformat.Bodies.{many_at}
+use Rattle.jground.specs.jformat.BodyFormats.{many_at}
 use Rattle.jground.specs.jformat.Format.{fault}
-use Rattle.jrights.specs.jio.Text.{written, written_unit}
-use Rattle.jstages.specs.Linking.{units_in}
+use Rattle.joutput.specs.jio.TextOutput.{written, written_unit}
+use Rattle.jtasks.specs.jstages.LinkStage.{units_in}
 use Rattle.jground.specs.jtext.Modified.{goes_on, text, three, three_at, two, two_at, unit_at}
-use Rattle.jground.specs.jbase.Stops.{◌>>=◌}
+use Rattle.jground.specs.jbase.MemoryFailures.{◌>>=◌}
 use Rattle.jstore.proofs.Binds.{bound}
 
 -- ---- units of a name

@@ -1,7 +1,7 @@
 -- A text as it is written, unit by unit.
 use Rattle.std.proofs.Common.{◌≡◌, ℕ, ◌+◌, ◌<◌, List, [], ◌∷◌, ◌++◌, length, take, get_or, refl, sym, ap, ◌∙◌, append_assoc}
 use Rattle.std.proofs.lemmas.List.{append-nil, take_more}
-use Rattle.jrights.specs.jio.Text.{written, written_unit}
+use Rattle.joutput.specs.jio.TextOutput.{written, written_unit}
 
 written_both : (a b : List ℕ) → written (a ++ b) ≡ written a ++ written b
 unfolding written

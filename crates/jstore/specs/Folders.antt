@@ -1,12 +1,12 @@
 -- The files that a moved program is stored as, below a folder.
 use Rattle.std.specs.Prelude.{ℕ, List, [], ◌∷◌, ◌++◌, map, codes, decimal}
-use Rattle.jrights.specs.jio.Held.{File}
-use Rattle.jrights.specs.jio.Text.{written}
-use Rattle.jjob.specs.Storing.{stored_job}
-use Rattle.jprogram.specs.Classes.{Program}
+use Rattle.joutput.specs.jio.ShelfFiles.{File}
+use Rattle.joutput.specs.jio.TextOutput.{written}
+use Rattle.jjob.specs.StoredJobText.{stored_job}
+use Rattle.jresolution.specs.jprogram.ProgramClasses.{Program}
 use Rattle.jrewriting.specs.declared.jrewrite.rewritten.OutFile.{OutFile}
-use Rattle.jrewriting.specs.jrewrite.Files.{files_of}
-use Rattle.jstages.specs.Linking.{units_in}
+use Rattle.jrewriting.specs.jrewrite.RewrittenFiles.{files_of}
+use Rattle.jtasks.specs.jstages.LinkStage.{units_in}
 
 -- where a class is stored in a folder: in that of its domain, by its name, which is written as texts are
 abbrev pub place_of : ℕ → List ℕ → List ℕ

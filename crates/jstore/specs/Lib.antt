@@ -1,3 +1,3 @@
 pub mod Folders
-pub mod Made
-pub mod Storing
+pub mod GeneratedShelves
+pub mod FileWrites

@@ -1,9 +1,9 @@
 ghost use Rattle.std.specs.Prelude.{◌≡◌, ◌≤◌, IfOk, IsUtf8, string_bytes};
-ghost use Rattle.jrights.specs.jio.Memory.{file_of, files_of};
-ghost use Rattle.jstore.specs.Made.{as_held, held};
+ghost use Rattle.joutput.specs.jio.MemoryDevices.{file_of, files_of};
+ghost use Rattle.jstore.specs.GeneratedShelves.{as_held, held};
 
 use jgen::{MadeFile, make_job};
-use jrights::jio::MemoryShelf;
+use joutput::jio::MemoryShelf;
 use std::alloc::{AllocError, Global};
 
 /// The text of the path of a made file.
@@ -27,7 +27,7 @@ fn held_file(alloc: Global, file: MadeFile) -> Result<(String, Vec<u8>), AllocEr
 }
 
 /// The files that a seed and a size make, as a shelf in memory holds them.
-#[tactic(auto, unfolding(crate::specs::Made::held))]
+#[tactic(auto, unfolding(crate::specs::GeneratedShelves::held))]
 fn held_files(alloc: Global, seed: u64, size: u32) -> Result<Vec<(String, Vec<u8>)>, AllocError>
     requires least { 1 ≤ size }
     requires most { size ≤ 1000 }

@@ -2,14 +2,12 @@
 //! of a made job as a shelf in memory holds them.
 //!
 //! - `Folders`: the files that a moved program is stored as.
-//! - `Storing`: files that are stored one after the other, and what stands where one fails.
-//! - `Made`: the files of a job that is made, as a shelf holds them.
+//! - `FileWrites`: files that are stored one after the other, and what stands where one fails.
+//! - `GeneratedShelves`: the files of a job that is made, as a shelf holds them.
 //!
 //! Proved: `files_below` answers exactly the files of a moved program below a folder, or want of memory. `store_all` stores files in their
 //! order, or a front of them, and then all but what stands at the path of the next one is as it was; a fault is told only where the shelf
 //! counted one, and nothing is read. `made_shelf` holds exactly the files that a seed and a size make.
-//!
-//! Rooms of jobs and the top may name it.
 #![tactic(auto)]
 
 mod held;

@@ -1,16 +1,16 @@
 ghost use Rattle.std.specs.Prelude.{◌≡◌, ◌≤◌, ◌<◌, ◌++◌, Err, IfOk, OnErr, OnOk, codes, decimal, false, map};
 ghost use Rattle.std.specs.Fmt.{digit_glyph};
-ghost use Rattle.jground.specs.jbase.Causes.{Rose};
-ghost use Rattle.jrights.specs.jio.Text.{written, written_unit};
-ghost use Rattle.jrights.specs.declared.jio.shelf.ShelfError.TheVariants.{Failed};
+ghost use Rattle.jground.specs.jbase.FaultCauses.{Rose};
+ghost use Rattle.joutput.specs.jio.TextOutput.{written, written_unit};
+ghost use Rattle.joutput.specs.declared.jio.shelf.ShelfError.TheVariants.{Failed};
 ghost use Rattle.jstore.specs.Folders.{all_below, class_path, files_below, place_of};
-ghost use Rattle.jstore.specs.Storing.{StoresFront, seen, with_files};
+ghost use Rattle.jstore.specs.FileWrites.{StoresFront, seen, with_files};
 
 use jground::jbase::Seq;
 use jjob::{Text, stored_job};
 use jmoving::{OutFile, RewrittenProgram};
-use jrights::jio::{Shelf, ShelfError};
-use jstages::{text_in, units_in};
+use joutput::jio::{Shelf, ShelfError};
+use jtasks::jstages::{text_in, units_in};
 use std::alloc::{AllocError, Global};
 
 /// A file that is to be stored.

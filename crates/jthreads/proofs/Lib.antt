@@ -1,6 +1,6 @@
-pub mod Counts
-pub mod Keeping
-pub mod Numbers
-pub mod Placing
-pub mod Pushing
+pub mod WaiterCounts
+pub mod ThreadUpdates
+pub mod RunnableNumbers
+pub mod RunnableNeighbours
+pub mod ThreadAdditions
 pub mod Waits

@@ -5,7 +5,7 @@ use Rattle.std.specs.Option.{option_map}
 use Rattle.std.proofs.lemmas.Bool.{eq-eqb, eqb-false}
 use Rattle.std.proofs.lemmas.List.{get_or-map, get_or-set_other, length-set}
 use Rattle.jthreads.specs.declared.thread.Thread.{Thread}
-use Rattle.jthreads.specs.Table.{is_alive, is_runnable, lives_at, table_after_end, thread_at, unstarted, woken}
+use Rattle.jthreads.specs.ThreadTables.{is_alive, is_runnable, lives_at, table_after_end, thread_at, unstarted, woken}
 use Rattle.jthreads.specs.ProofNames.{is_at}
 
 by_test : (t : ℕ) (x : Thread) (b : Bool) → is_at t x.waits_for ≡ b → (if b then record x { waits_for = None } else x).waits_for ≡ Some t → ⊥

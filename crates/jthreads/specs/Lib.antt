@@ -1,4 +1,4 @@
-pub mod Kept
+pub mod ThreadQueues
 pub mod Schedule
-pub mod Table
+pub mod ThreadTables
 pub mod ProofNames

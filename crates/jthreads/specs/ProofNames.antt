@@ -2,7 +2,7 @@
 -- reaches none of them.
 use Rattle.std.specs.Prelude.{List, ℕ, slice_index, ◌==◌, Option, Bool, None, false, Some, true}
 use Rattle.jthreads.specs.declared.thread.Thread.{Thread}
-use Rattle.jthreads.specs.Table.{unstarted}
+use Rattle.jthreads.specs.ThreadTables.{unstarted}
 
 -- ---- of Schedule
 
@@ -10,7 +10,7 @@ use Rattle.jthreads.specs.Table.{unstarted}
 abbrev pub number_at : List ℕ → ℕ → ℕ
 number_at schedule taken = slice_index schedule taken
 
--- ---- of Table
+-- ---- of ThreadTables
 
 abbrev pub is_at : ℕ → Option ℕ → Bool
 is_at t = elim [ None ↦ false | Some other ↦ other == t ]

@@ -2,7 +2,7 @@ ghost use Rattle.std.specs.Prelude.{◌≡◌, ◌≢◌, ◌<◌, ℕ, List, So
 ghost use Rattle.std.specs.List.{Contains};
 ghost use Rattle.std.specs.List.Sorted.{IsStrictlyIncreasing};
 ghost use Rattle.jthreads.specs.declared.thread.Thread.{Thread};
-ghost use Rattle.jthreads.specs.Table.{Awaits, is_runnable, is_started, lives_at, runnable_numbers, table_after_end, thread_at};
+ghost use Rattle.jthreads.specs.ThreadTables.{Awaits, is_runnable, is_started, lives_at, runnable_numbers, table_after_end, thread_at};
 
 /// The laws of the table. The runnable numbers rise, and are those of the threads that are runnable. A thread that was never
 /// started isn't among them. After the end of a thread nobody waits for it, and who waited for it is runnable.

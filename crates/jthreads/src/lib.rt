@@ -2,16 +2,14 @@
 //! (`Threads::pick`). The machine's threads (`jguests`) stand on it.
 //!
 //! - `Schedule`: the number at a place of the schedule, and the thread that it picks.
-//! - `Table`: a thread as started, ended, waits for; the runnable numbers; the table after each call.
-//! - `Kept`: what the table keeps so that nothing is sought: the runnable numbers in order, and how many wait for each thread.
+//! - `ThreadTables`: a thread as started, ended, waits for; the runnable numbers; the table after each call.
+//! - `ThreadQueues`: what the table keeps so that nothing is sought: the runnable numbers in order, and how many wait for each thread.
 //!
 //! Proved: `pick` is the schedule's pick, None exactly where no thread is runnable; each call changes the table by one equation;
 //! `thread_laws`: the runnable numbers rise and are exactly those of runnable threads, a thread that was never started isn't among
 //! them, and after the end of a thread nobody waits for it.
 //!
 //! `ProofNames` are names by which proofs and contracts of inner functions call what the definitions say in place.
-//!
-//! Rooms of the machine's definition and the machine may name it, and tests.
 #![tactic(auto)]
 
 mod laws;

@@ -1,6 +1,6 @@
 ghost use Rattle.std.specs.Prelude.{◌≡◌, ◌<◌, ◌≤◌, ◌++◌, ◌∷◌, ℕ, List, length};
 ghost use Rattle.std.specs.VecDeque.{deque_capacity};
-ghost use Rattle.jthreads.specs.Kept.{IsBetween, alone};
+ghost use Rattle.jthreads.specs.ThreadQueues.{IsBetween, alone};
 
 use std::collections::VecDeque;
 

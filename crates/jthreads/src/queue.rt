@@ -1,5 +1,5 @@
 ghost use Rattle.std.specs.Prelude.{◌≡◌, ◌<◌, ◌+◌, ◌++◌, ◌∷◌, ◌^◌, ℕ, [], IfSome, cond, length, vec_capacity};
-ghost use Rattle.jthreads.specs.Kept.{nobody, queue_at};
+ghost use Rattle.jthreads.specs.ThreadQueues.{nobody, queue_at};
 ghost use Rattle.jthreads.specs.ProofNames.{is_at};
 
 /// What is kept of those that wait for a thread: how many they are, the last one that came, and behind a thread that waits itself the

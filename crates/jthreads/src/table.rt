@@ -3,7 +3,7 @@ ghost use Rattle.std.specs.List.{Contains};
 ghost use Rattle.std.specs.Option.{is_none};
 ghost use Rattle.std.specs.VecDeque.{deque_capacity};
 ghost use Rattle.jthreads.specs.Schedule.{picked};
-ghost use Rattle.jthreads.specs.Table.{added, have_ended, is_started, join_answer, joined, lives_at, opened, runnable_numbers, table_after_end, table_after_start, woken};
+ghost use Rattle.jthreads.specs.ThreadTables.{added, have_ended, is_started, join_answer, joined, lives_at, opened, runnable_numbers, table_after_end, table_after_start, woken};
 
 use crate::order::keep_order;
 use crate::queue::{Queue, list, one_less, one_more};
@@ -45,7 +45,7 @@ impl Model for Threads {
     ghost use Rattle.std.specs.Prelude.{List};
     ghost use Rattle.std.specs.VecDeque.{deque_capacity};
     ghost use Rattle.jthreads.specs.declared.thread.Thread.{Thread};
-    ghost use Rattle.jthreads.specs.Kept.{IsTable};
+    ghost use Rattle.jthreads.specs.ThreadQueues.{IsTable};
 
     ghost Value = { List Thread };
 

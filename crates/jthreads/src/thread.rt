@@ -1,5 +1,5 @@
 ghost use Rattle.std.specs.Prelude.{◌≡◌};
-ghost use Rattle.jthreads.specs.Table.{is_alive, is_runnable, unstarted, woken};
+ghost use Rattle.jthreads.specs.ThreadTables.{is_alive, is_runnable, unstarted, woken};
 
 /// What the table keeps of a guest thread.
 #[derive(Clone, Copy, Debug, PartialEq, Eq)]

@@ -2,9 +2,9 @@
 use Rattle.std.proofs.Common.{◌≡◌, ℕ, zero, suc, ◌<◌, Bool, false, refl, arith}
 use Rattle.jtypes.specs.declared.vtype.Element.{Element}
 use Rattle.jtypes.specs.declared.vtype.Name.{Name}
-use Rattle.jtypes.specs.Fitting.{array_fits, element_fits}
+use Rattle.jtypes.specs.Assignability.{array_fits, element_fits}
 use Rattle.jtypes.specs.ProofNames.{is_above_array}
-use Rattle.jtypes.specs.Tree.{Tree}
+use Rattle.jtypes.specs.ClassTrees.{Tree}
 
 pub fewer_fail : (above : Name → Bool) (t : Tree) (d : ℕ) (x : Element) (e : ℕ) (y : Element) → d < e → array_fits above t d x e y ≡ false
 unfolding array_fits

@@ -1,3 +1,3 @@
 pub mod Dimensions
-pub mod Along
-pub mod Framing
+pub mod SubtypeLaws
+pub mod FrameFits

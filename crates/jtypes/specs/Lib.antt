@@ -1,5 +1,5 @@
-pub mod Described
-pub mod Fitting
-pub mod Frames
-pub mod Tree
+pub mod DescriptorElements
+pub mod Assignability
+pub mod TypeFrames
+pub mod ClassTrees
 pub mod ProofNames

@@ -1,6 +1,6 @@
 ghost use Rattle.std.specs.Prelude.{◌≡◌, Bool, true, codes};
 ghost use Rattle.jtypes.specs.declared.vtype.Name.{Name};
-ghost use Rattle.jtypes.specs.Tree.{InterfacesExtendTheirs, Tree};
+ghost use Rattle.jtypes.specs.ClassTrees.{InterfacesExtendTheirs, Tree};
 
 use crate::vtype::Name;
 

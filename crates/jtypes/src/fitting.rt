@@ -1,6 +1,6 @@
 ghost use Rattle.std.specs.Prelude.{◌≡◌};
 ghost use Rattle.jtypes.specs.declared.vtype.VType.TheVariants.{Object};
-ghost use Rattle.jtypes.specs.Fitting.{array_fits, class_fits, element_fits, fits, is_above_arrays};
+ghost use Rattle.jtypes.specs.Assignability.{array_fits, class_fits, element_fits, fits, is_above_arrays};
 ghost use Rattle.jtypes.specs.ProofNames.{is_above_array};
 
 use crate::ancestry::Ancestry;

@@ -3,8 +3,8 @@ ghost use Rattle.jtypes.specs.declared.vtype.ArrayType.{ArrayType};
 ghost use Rattle.jtypes.specs.declared.vtype.Name.{Name};
 ghost use Rattle.jtypes.specs.declared.vtype.VType.{VType};
 ghost use Rattle.jtypes.specs.declared.vtype.VType.TheVariants.{Array, Null, Object, Top};
-ghost use Rattle.jtypes.specs.Fitting.{fits, fits_where};
-ghost use Rattle.jtypes.specs.Frames.{FitsTops, Frame, IsReflexive, IsTransitive, KeepsFlag, TopIsNoLong, frame_fits};
+ghost use Rattle.jtypes.specs.Assignability.{fits, fits_where};
+ghost use Rattle.jtypes.specs.TypeFrames.{FitsTops, Frame, IsReflexive, IsTransitive, KeepsFlag, TopIsNoLong, frame_fits};
 
 use crate::ancestry::Ancestry;
 

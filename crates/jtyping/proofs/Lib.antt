@@ -1,9 +1,2 @@
-pub mod Bodies
-pub mod Chosen
-pub mod Indexed
-pub mod Methods
-pub mod Numbers
-pub mod Steps
-pub mod Successors
-pub mod Tests
-pub mod TypingExamples
+pub mod JruleProofs
+pub mod JwelltypedProofs

@@ -1,5 +1,3 @@
-pub mod Declared
-pub mod Methods
-pub mod Typed
-pub mod Typing
+pub mod jrule
+pub mod jwelltyped
 pub mod ProofNames

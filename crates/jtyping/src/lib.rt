@@ -1,21 +1,11 @@
-//! Which programs are well typed (JVMS 4.10.1.6), as definitions that the checker and the driver share, and their laws, which proofs
-//! above cite.
+//! The type checker's rules, as rooms: the rule of each instruction, by which a frame comes to the next (jrule), and which methods and programs
+//! are well typed by it (jwelltyped). The checker itself is jverify. It stands on jresolution.
 //!
-//! - `Methods`: what typing has to know of a method: its class, the one above, its parameters, what its `new`s make, which handlers
-//!   cover a place.
-//! - `Declared`: the frames that a method declares, in full, by the names of their types, and what is asked of them.
-//! - `Typing`: the tests in their order, and the first place with one that fails (`type_fault`).
-//! - `Typed`: the same as a demand on a whole list of frames.
-//!
-//! Proved: `typing_law`: no test fails in a program exactly where each instruction of its methods can be given a frame so that these
-//! fit one another. `frames_law`: these frames are no others, each instruction has one, and it is the declared one where one is
-//! declared. `leading_law` and `number_law`: the frame behind an instruction fits wherever it leads, by places and by numbers.
+//! Each room is a module, whose head says what it holds and what is proved of it; its definitions lie in `specs/` under its name, and so does
+//! its part of `proofs/`.
 //!
 //! `ProofNames` are names by which proofs and contracts of inner functions call what the definitions say in place.
-//!
-//! Rooms of checking, the machine, moving, jobs and the top may name it.
 #![tactic(auto)]
 
-mod laws;
-
-pub use laws::{frames_law, leading_law, number_law, typing_law};
+pub mod jrule;
+pub mod jwelltyped;

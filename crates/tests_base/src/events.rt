@@ -1,9 +1,9 @@
 use crate::files::sink;
 use crate::words::{first, units};
 use jground::jtext::Units;
+use joutput::jio::{MemorySink, PutFault};
+use joutput::jtrace::{End, Event, write_end, write_event};
 use jperm::{Actions, Permission, PropertyActions};
-use jrights::jio::{MemorySink, PutFault};
-use jrights::jtrace::{End, Event, write_end, write_event};
 use std::alloc::{AllocError, Global};
 use tests_rows::{Answer, Unread, number};
 

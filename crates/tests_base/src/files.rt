@@ -1,8 +1,8 @@
 ghost use Rattle.std.specs.Prelude.{◌≡◌, ◌+◌, ◌<◌, ◌≤◌, ◌^◌, None, IfOk, OnErr, length, min, take};
-ghost use Rattle.jground.specs.jbase.Causes.{HasCause, appended};
+ghost use Rattle.jground.specs.jbase.FaultCauses.{HasCause, appended};
 
 use crate::words::units;
-use jrights::jio::{
+use joutput::jio::{
     MemoryShelf, MemorySink, Part, RealShelf, RealSink, Shelf, Sink, SinkError, put_all,
     write_line, write_line_text,
 };

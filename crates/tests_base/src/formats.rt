@@ -135,7 +135,7 @@ fn block(bytes: &[u8], answer: &mut Answer) {
 }
 
 /// The bytes that writers put one behind the other: two numbers behind their count, one in a block, two by a state, a sized text, -2.
-#[tactic(auto, unfolding(jground::specs::jformat::States::fits_from))]
+#[tactic(auto, unfolding(jground::specs::jformat::StatefulFormats::fits_from))]
 fn written(alloc: Global) -> Result<Seq<u8>, AllocError> {
     let mut out = Seq::new(alloc);
     put_counted(alloc, &Short, &[256, 7], &mut out)?;

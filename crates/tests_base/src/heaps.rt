@@ -1,6 +1,6 @@
 use crate::words::first;
-use jground::jops::Value;
-use jheap::{CellType, Heap, Kind};
+use jmemory::jheap::{CellType, Heap, Kind};
+use jvalues::jops::Value;
 use tests_rows::Answer;
 
 fn kind_of(name: &str) -> Option<Kind> {

@@ -2,7 +2,7 @@
 //! regions, the library, types, threads and events) what the lines of the input ask, and tells which answers aren't those that the input
 //! says. A line is a word, more words, ` | ` and the answer. The input says what the words are.
 //!
-//! - `Few`: a program of few classes, over which types are asked.
+//! - `SamplePrograms`: a program of few classes, over which types are asked.
 //!
 //! No room names it.
 #![tactic(auto)]

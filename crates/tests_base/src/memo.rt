@@ -1,4 +1,4 @@
-use jmemo::{Key, Memo};
+use jcache::{Key, Memo};
 use tests_rows::Answer;
 
 /// A method that is looked for in a class.

@@ -1,17 +1,17 @@
-use jground::jnames::Compare::{Eq, Ge, Gt, Le, Lt, Ne};
-use jground::jnames::Division::{Idiv, Irem, Ldiv, Lrem};
-use jground::jnames::OpOne::{I2b, I2c, I2l, I2s, Ineg, L2i, Lneg};
-use jground::jnames::OpTwo::{
+use jvalues::jnames::Compare::{Eq, Ge, Gt, Le, Lt, Ne};
+use jvalues::jnames::Division::{Idiv, Irem, Ldiv, Lrem};
+use jvalues::jnames::OpOne::{I2b, I2c, I2l, I2s, Ineg, L2i, Lneg};
+use jvalues::jnames::OpTwo::{
     Iadd, Iand, Imul, Ior, Ishl, Ishr, Isub, Iushr, Ixor, Ladd, Land, Lcmp, Lmul, Lor, Lshl, Lshr,
     Lsub, Lushr, Lxor,
 };
-use jground::jnames::Shuffle::{Dup, Dup2, Dup2X1, Dup2X2, DupX1, DupX2, Pop, Pop2, Swap};
-use jground::jops::Value::{Ctx, Int, Long, Ref};
-use jground::jops::{DivideByZero, Shuffled, Value, divide, one, shuffle, test, two};
+use jvalues::jnames::Shuffle::{Dup, Dup2, Dup2X1, Dup2X2, DupX1, DupX2, Pop, Pop2, Swap};
+use jvalues::jops::Value::{Ctx, Int, Long, Ref};
+use jvalues::jops::{DivideByZero, Shuffled, Value, divide, one, shuffle, test, two};
 use tests_rows::Answer;
 
 /// What two ints give.
-#[tactic(auto, unfolding(jground::specs::jops::Operations::two))]
+#[tactic(auto, unfolding(jvalues::specs::jops::Operations::two))]
 fn of_ints(name: &str, x: i32, y: i32) -> Option<Value> {
     match name {
         "iadd" => Some(two(Iadd, Int(x), Int(y))),
@@ -28,7 +28,7 @@ fn of_ints(name: &str, x: i32, y: i32) -> Option<Value> {
 }
 
 /// What two longs give.
-#[tactic(auto, unfolding(jground::specs::jops::Operations::two))]
+#[tactic(auto, unfolding(jvalues::specs::jops::Operations::two))]
 fn of_longs(name: &str, x: i64, y: i64) -> Option<Value> {
     match name {
         "ladd" => Some(two(Ladd, Long(x), Long(y))),
@@ -43,7 +43,7 @@ fn of_longs(name: &str, x: i64, y: i64) -> Option<Value> {
 }
 
 /// What a long gives, shifted by an int.
-#[tactic(auto, unfolding(jground::specs::jops::Operations::two))]
+#[tactic(auto, unfolding(jvalues::specs::jops::Operations::two))]
 fn shifted(name: &str, x: i64, y: i32) -> Option<Value> {
     match name {
         "lshl" => Some(two(Lshl, Long(x), Int(y))),
@@ -54,7 +54,7 @@ fn shifted(name: &str, x: i64, y: i32) -> Option<Value> {
 }
 
 /// What an int gives.
-#[tactic(auto, unfolding(jground::specs::jops::Operations::one))]
+#[tactic(auto, unfolding(jvalues::specs::jops::Operations::one))]
 fn of_int(name: &str, x: i32) -> Option<Value> {
     match name {
         "ineg" => Some(one(Ineg, Int(x))),
@@ -67,7 +67,7 @@ fn of_int(name: &str, x: i32) -> Option<Value> {
 }
 
 /// What a long gives.
-#[tactic(auto, unfolding(jground::specs::jops::Operations::one))]
+#[tactic(auto, unfolding(jvalues::specs::jops::Operations::one))]
 fn of_long(name: &str, x: i64) -> Option<Value> {
     match name {
         "lneg" => Some(one(Lneg, Long(x))),
@@ -77,7 +77,7 @@ fn of_long(name: &str, x: i64) -> Option<Value> {
 }
 
 /// What a division of ints gives.
-#[tactic(auto, unfolding(jground::specs::jops::Operations::divide))]
+#[tactic(auto, unfolding(jvalues::specs::jops::Operations::divide))]
 fn divided(name: &str, x: i32, y: i32) -> Option<Result<Value, DivideByZero>> {
     match name {
         "idiv" => Some(divide(Idiv, Int(x), Int(y))),
@@ -87,7 +87,7 @@ fn divided(name: &str, x: i32, y: i32) -> Option<Result<Value, DivideByZero>> {
 }
 
 /// What a division of longs gives.
-#[tactic(auto, unfolding(jground::specs::jops::Operations::divide))]
+#[tactic(auto, unfolding(jvalues::specs::jops::Operations::divide))]
 fn long_divided(name: &str, x: i64, y: i64) -> Option<Result<Value, DivideByZero>> {
     match name {
         "ldiv" => Some(divide(Ldiv, Long(x), Long(y))),
@@ -192,7 +192,7 @@ const K: Value = Long(6);
 const Z: Value = Int(0);
 
 /// What an instruction does with items of one slot.
-#[tactic(auto, unfolding(jground::specs::jops::Shuffles::shuffle))]
+#[tactic(auto, unfolding(jvalues::specs::jops::Shuffles::shuffle))]
 fn moved(words: &str) -> Option<Shuffled> {
     match words {
         "pop A" => Some(shuffle(Pop, [Z, Z, Z, A])),
@@ -209,7 +209,7 @@ fn moved(words: &str) -> Option<Shuffled> {
 }
 
 /// What an instruction does with items of which some are longs.
-#[tactic(auto, unfolding(jground::specs::jops::Shuffles::shuffle))]
+#[tactic(auto, unfolding(jvalues::specs::jops::Shuffles::shuffle))]
 fn moved_longs(words: &str) -> Option<Shuffled> {
     match words {
         "pop2 B J" => Some(shuffle(Pop2, [Z, Z, B, J])),

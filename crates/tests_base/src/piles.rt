@@ -2,7 +2,7 @@ ghost use Rattle.std.specs.Prelude.{◌∷◌};
 ghost use Rattle.std.specs.Option.{option_to_list};
 
 use crate::words::first;
-use jpile::{Pile, Spread};
+use jstacks::{Pile, Spread};
 use std::alloc::{AllocError, Global};
 use tests_rows::Answer;
 

@@ -1,5 +1,5 @@
 use crate::words::first;
-use jground::jregion::Region;
+use jmemory::jregion::Region;
 use tests_rows::Answer;
 
 /// What a region answers to each word: `place` with a length, `room`.

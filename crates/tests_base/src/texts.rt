@@ -1,5 +1,5 @@
 use crate::words::units;
-use jground::jbase::Stop;
+use jground::jbase::FaultOrMemory;
 use jground::jtext::{Units, bytes_of, same_ignoring_case, units_of};
 use std::alloc::{AllocError, Global};
 use tests_rows::Answer;
@@ -38,7 +38,7 @@ fn fault_behind(front: &[u8], bad: &[u8], answer: &mut Answer) {
     answer.needs(all.extend_from_slice(front));
     answer.needs(all.extend_from_slice(bad));
     match units_of(alloc, all.as_slice()) {
-        Err(Stop::Fault(fault)) => answer.spaced(&fault.at),
+        Err(FaultOrMemory::Fault(fault)) => answer.spaced(&fault.at),
         _ => answer.refuse(),
     }
 }

@@ -1,5 +1,5 @@
 ghost use Rattle.std.specs.Prelude.{◌≡◌, ⊤};
-ghost use Rattle.tests_base.specs.Few.{few, few_above, few_chain, few_itself, few_object};
+ghost use Rattle.tests_base.specs.SamplePrograms.{few, few_above, few_chain, few_itself, few_object};
 
 use jground::jbase::Seq;
 use jtypes::{Ancestry, ArrayType, Element, Name, VType, fits};

@@ -5,7 +5,7 @@ use crate::used::of_types;
 use jclass::ClassParts;
 use jlib::Side;
 use jlinking::jmembers::members_fault;
-use jprogram::{CallKind, ClassRef, CodePart, NamedProgram};
+use jresolution::jprogram::{CallKind, ClassRef, CodePart, NamedProgram};
 use std::alloc::Global;
 use tests_rows::{Answer, Unread};
 

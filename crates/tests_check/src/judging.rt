@@ -1,8 +1,8 @@
 use jcheck::{CheckedProgram, TypeFault, check};
 use jlib::Side;
 use jlinking::jlink::{LinkError, LinkedProgram, are_parts, link};
-use jprogram::CodePart;
 use jreadclass::read_class;
+use jresolution::jprogram::CodePart;
 use std::alloc::Global;
 use std::fmt;
 use tests_rows::Unread;

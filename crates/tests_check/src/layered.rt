@@ -1,12 +1,12 @@
 ghost use Rattle.std.specs.Prelude.{◌≡◌, true};
-ghost use Rattle.jprogram.specs.Layers.{IsLayered};
-ghost use Rattle.jprogram.specs.Standing.{StandsInOrder};
+ghost use Rattle.jresolution.specs.jprogram.InterfaceSearch.{IsLayered};
+ghost use Rattle.jresolution.specs.jprogram.OrderedPrograms.{StandsInOrder};
 
 use crate::question::Question;
 use crate::used::of_pools;
 use jlinking::jreferring::code_fault;
-use jmeaning::juses::Uses;
-use jprogram::{Interfaces, NamedProgram, program_laws};
+use jresolution::jprogram::{Interfaces, NamedProgram, program_laws};
+use jresolution::juses::Uses;
 use std::alloc::{AllocError, Global};
 use std::fmt;
 use tests_rows::Answer;

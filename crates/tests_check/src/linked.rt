@@ -4,8 +4,8 @@ use crate::question::{Question, class_id, method_of};
 use jclass::ClassFile;
 use jlib::Side;
 use jlinking::jlink::{LinkError, LinkedProgram, are_parts, link, link_known};
-use jmeaning::juses::{code_at, instruction_at};
-use jprogram::{CallKind, ClassRef, CodePart, MethodId};
+use jresolution::jprogram::{CallKind, ClassRef, CodePart, MethodId};
+use jresolution::juses::{code_at, instruction_at};
 use std::alloc::{AllocError, Global};
 use tests_rows::{Answer, Unread};
 

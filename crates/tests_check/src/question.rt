@@ -1,4 +1,4 @@
-use jprogram::{ClassId, Member, MethodId};
+use jresolution::jprogram::{ClassId, Member, MethodId};
 use tests_rows::Answer;
 
 /// A question: its word, and up to four words behind it, which are empty where they aren't there.

@@ -3,7 +3,7 @@ use crate::judging::{Verdict, judged, part_of};
 use crate::rows::Row;
 use crate::words::put_u16;
 use jlib::Side;
-use jprogram::CodePart;
+use jresolution::jprogram::CodePart;
 use std::alloc::{AllocError, Global};
 use tests_rows::{Answer, Unread, hex_of, put_hex};
 

@@ -1,7 +1,7 @@
 use crate::question::Question;
-use jmeaning::juses::{ArrayRef, ElementRef, TypeRef, Use, Uses, stands_below, type_fits};
 use jparts::jcode::{CallOp, CastOp, FieldOp, PoolForm};
-use jprogram::{ClassRef, NamedProgram};
+use jresolution::jprogram::{ClassRef, NamedProgram};
+use jresolution::juses::{ArrayRef, ElementRef, TypeRef, Use, Uses, stands_below, type_fits};
 use tests_rows::{Answer, Unread};
 
 /// What an instruction of a name says of an entry.

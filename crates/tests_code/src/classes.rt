@@ -1,5 +1,5 @@
 use jclass::{ClassFile, write_class};
-use jground::jbase::Stop;
+use jground::jbase::FaultOrMemory;
 use jreadclass::read_class;
 use tests_rows::Answer;
 
@@ -23,13 +23,13 @@ pub fn read(front: &[u8], words: &str, answer: &mut Answer) {
             tell_written(&class, bytes.as_slice(), answer);
             drop(class);
         }
-        Err(Stop::Fault(fault)) => match (fault.at as usize).checked_sub(front.len()) {
+        Err(FaultOrMemory::Fault(fault)) => match (fault.at as usize).checked_sub(front.len()) {
             Some(at) => answer.debug_pair(&at, &fault.kind),
             None => {
                 answer.tell("in front ");
                 answer.debug_pair(&fault.at, &fault.kind);
             }
         },
-        Err(Stop::Memory) => answer.lack(),
+        Err(FaultOrMemory::Memory) => answer.lack(),
     }
 }

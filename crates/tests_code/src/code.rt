@@ -1,6 +1,6 @@
-use jground::jbase::Stop;
+use jground::jbase::FaultOrMemory;
 use jparts::jcode::{
-    Form, Placed, Switch, branch_at, branch_count, decode, effect_of, encode, form_of, goes_on,
+    OpForm, Placed, Switch, branch_at, branch_count, decode, effect_of, encode, form_of, goes_on,
 };
 use std::alloc::AllocError;
 use tests_rows::Answer;
@@ -28,8 +28,8 @@ pub fn read(words: &str, answer: &mut Answer) {
             tell_count(ops.len(), &again, bytes.as_slice(), answer);
             drop(ops);
         }
-        Err(Stop::Fault(fault)) => answer.debug_pair(&fault.at, &fault.kind),
-        Err(Stop::Memory) => answer.lack(),
+        Err(FaultOrMemory::Fault(fault)) => answer.debug_pair(&fault.at, &fault.kind),
+        Err(FaultOrMemory::Memory) => answer.lack(),
     }
 }
 
@@ -53,7 +53,7 @@ fn tell_list(ops: &[Placed], answer: &mut Answer) {
     }
 }
 
-fn tell_form(form: &Form<&Switch>, answer: &mut Answer) {
+fn tell_form(form: &OpForm<&Switch>, answer: &mut Answer) {
     answer.debug(form);
     if let Some(effect) = effect_of(form) {
         answer.tell(" takes ");
@@ -64,7 +64,7 @@ fn tell_form(form: &Form<&Switch>, answer: &mut Answer) {
 }
 
 /// Tells the distance of each branch, and whether there are no others: one more is asked than the form has.
-fn tell_branches(form: &Form<&Switch>, answer: &mut Answer) {
+fn tell_branches(form: &OpForm<&Switch>, answer: &mut Answer) {
     for i in 0..=branch_count(form) {
         if let Some(by) = branch_at(form, i) {
             answer.debug(&by);
@@ -91,7 +91,7 @@ pub fn ask(asked: Asked, words: &str, answer: &mut Answer) {
             tell_asked(asked, ops.as_slice(), answer);
             drop(ops);
         }
-        Err(Stop::Fault(_)) => answer.refuse(),
-        Err(Stop::Memory) => answer.lack(),
+        Err(FaultOrMemory::Fault(_)) => answer.refuse(),
+        Err(FaultOrMemory::Memory) => answer.lack(),
     }
 }

@@ -1,6 +1,6 @@
 use jclass::write_class;
 use jgen::{MadeFile, make_job};
-use jground::jbase::Stop;
+use jground::jbase::FaultOrMemory;
 use jreadclass::read_class;
 use std::alloc::{AllocError, Global};
 use tests_rows::Answer;
@@ -49,8 +49,8 @@ fn is_class(alloc: Global, bytes: &[u8]) -> Result<bool, AllocError> {
             drop(class);
             Ok(again?.as_slice() == bytes)
         }
-        Err(Stop::Fault(_)) => Ok(false),
-        Err(Stop::Memory) => Err(AllocError),
+        Err(FaultOrMemory::Fault(_)) => Ok(false),
+        Err(FaultOrMemory::Memory) => Err(AllocError),
     }
 }
 

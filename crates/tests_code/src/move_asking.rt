@@ -1,5 +1,5 @@
 ghost use Rattle.std.specs.Prelude.{◌<◌};
-ghost use Rattle.jmove.specs.Moved.{CanMove};
+ghost use Rattle.jmove.specs.MethodExpansion.{CanMove};
 
 use crate::move_given::method_of;
 use crate::move_reading::{Given, read};

@@ -1,7 +1,7 @@
 ghost use Rattle.std.specs.Prelude.{◌≡◌, ◌≤◌, All, IfSome, IsTrue};
-ghost use Rattle.jmove.specs.Frames.{widths};
+ghost use Rattle.jmove.specs.MovedFrames.{widths};
 ghost use Rattle.jmove.specs.ProofNames.{width};
-ghost use Rattle.jmove.specs.Moved.{CanMove};
+ghost use Rattle.jmove.specs.MethodExpansion.{CanMove};
 
 use jground::jbase::Seq;
 use jmove::{Expand, MethodIn};

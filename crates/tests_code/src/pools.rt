@@ -1,5 +1,5 @@
 use jadder::{AddError, Adder};
-use jground::jbase::{Seq, Stop};
+use jground::jbase::{FaultOrMemory, Seq};
 use jparts::jpool::{
     DescError, Descriptor, Entry, FieldType, Pool, is_array_descriptor, is_class_name,
     is_field_descriptor, is_method_descriptor, method_slots, read_descriptor, read_pool, slots_of,
@@ -139,8 +139,8 @@ pub fn pool(at: &str, words: &str, answer: &mut Answer) {
             tell_end(&pool, bytes.as_slice(), at, end, answer);
             drop(pool);
         }
-        Err(Stop::Fault(fault)) => answer.debug_pair(&fault.at, &fault.kind),
-        Err(Stop::Memory) => answer.lack(),
+        Err(FaultOrMemory::Fault(fault)) => answer.debug_pair(&fault.at, &fault.kind),
+        Err(FaultOrMemory::Memory) => answer.lack(),
     }
 }
 
@@ -150,8 +150,8 @@ pub fn pool_of(alloc: Global, fields: &str) -> Result<Pool, Unread> {
     let bytes = hex_of(alloc, words)?;
     match read_pool(alloc, bytes.as_slice(), number::<u32>(at)?) {
         Ok((pool, _)) => Ok(pool),
-        Err(Stop::Fault(_)) => Err(Unread::Line),
-        Err(Stop::Memory) => Err(Unread::Memory),
+        Err(FaultOrMemory::Fault(_)) => Err(Unread::Line),
+        Err(FaultOrMemory::Memory) => Err(Unread::Memory),
     }
 }
 

@@ -1,7 +1,7 @@
 ghost use Rattle.std.specs.Prelude.{IsTrue};
-ghost use Rattle.jparts.specs.jmaps.Frames.{maps};
+ghost use Rattle.jparts.specs.jmaps.StackMapFormat.{maps};
 
-use jground::jbase::{Seq, Stop};
+use jground::jbase::{FaultOrMemory, Seq};
 use jparts::jmaps::{
     ExpandError, Expansion, FullFrame, MapType, RawFrame, expand, put_frames, read_maps, write_maps,
 };
@@ -19,8 +19,8 @@ pub fn read(words: &str, answer: &mut Answer) {
             answer.debug(&raw.len());
             answer.tell(" frames");
         }
-        Err(Stop::Fault(fault)) => answer.debug_pair(&fault.at, &fault.kind),
-        Err(Stop::Memory) => answer.lack(),
+        Err(FaultOrMemory::Fault(fault)) => answer.debug_pair(&fault.at, &fault.kind),
+        Err(FaultOrMemory::Memory) => answer.lack(),
     }
 }
 

@@ -1,1 +1,1 @@
-pub mod Referred
+pub mod CodeReferences

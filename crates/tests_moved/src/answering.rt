@@ -3,7 +3,7 @@ use crate::comparing::difference;
 use crate::difference::Difference;
 use crate::pair::{Pair, Unmoved, pair_of};
 use jlinking::jlink::LinkedProgram;
-use jprogram::{CodePart, Selected};
+use jresolution::jprogram::{CodePart, Selected};
 use std::alloc::Global;
 use tests_rows::{Unread, debug};
 

@@ -3,7 +3,7 @@ use crate::members::{moved_member, moved_selected};
 use crate::references::{call_at, method_count, op_count};
 use crate::selection::class_id;
 use jlinking::jlink::LinkedProgram;
-use jprogram::{CallKind, Member, MethodId, Selected};
+use jresolution::jprogram::{CallKind, Member, MethodId, Selected};
 use tests_rows::{Unread, first};
 
 fn call_kind(word: &str) -> Result<CallKind, Unread> {

@@ -1,7 +1,7 @@
 use crate::difference::Difference;
 use jground::jbase::Seq;
 use jlinking::jlink::LinkedProgram;
-use jprogram::ClassRef;
+use jresolution::jprogram::ClassRef;
 use jtypes::Name;
 use std::alloc::{AllocError, Global};
 

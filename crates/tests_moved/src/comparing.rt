@@ -3,7 +3,7 @@ use crate::difference::Difference;
 use crate::references::{method_count, names_same};
 use crate::selection::selects_same;
 use jlinking::jlink::LinkedProgram;
-use jprogram::MethodId;
+use jresolution::jprogram::MethodId;
 use jtypes::Name;
 use std::alloc::{AllocError, Global};
 

@@ -1,4 +1,4 @@
-use jprogram::MethodId;
+use jresolution::jprogram::MethodId;
 use std::fmt;
 
 /// What differs between a program and its moved program.

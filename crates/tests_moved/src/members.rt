@@ -1,5 +1,5 @@
 use jlib::{ControllerCall, LibCall, RtCall, Side, ThreadCall};
-use jprogram::{Member, Selected};
+use jresolution::jprogram::{Member, Selected};
 
 /// A member of the library as a moved program has it: both `run` and Thread's constructor are given a context.
 fn passing(call: LibCall) -> LibCall {

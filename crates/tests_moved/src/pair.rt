@@ -5,7 +5,7 @@ use jcheck::{CheckedProgram, check};
 use jlib::Side;
 use jlinking::jlink::{LinkError, LinkedProgram, are_parts, link};
 use jmoving::{RewriteError, RewrittenProgram, rewrite};
-use jprogram::CodePart;
+use jresolution::jprogram::CodePart;
 use std::alloc::Global;
 use std::fmt;
 

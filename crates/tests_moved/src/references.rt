@@ -1,13 +1,13 @@
 ghost use Rattle.std.specs.Prelude.{◌≡◌, IfSome};
-ghost use Rattle.jparts.specs.jcode.Forms.{form};
-ghost use Rattle.jlinking.specs.jlink.Referred;
-ghost use Rattle.jlinking.specs.jlink.Referred.{IsReferred};
+ghost use Rattle.jparts.specs.jcode.InstructionForms.{form};
+ghost use Rattle.jlinking.specs.jlink.CodeReferences;
+ghost use Rattle.jlinking.specs.jlink.CodeReferences.{IsReferred};
 
 use crate::members::{ENTERS, named_member};
 use jlinking::jlink::LinkedProgram;
-use jmeaning::juses::{CallUse, Use, code_at};
-use jparts::jcode::{Form, Op, PoolForm, form_of};
-use jprogram::{Member, MethodId};
+use jparts::jcode::{Op, OpForm, PoolForm, form_of};
+use jresolution::jprogram::{Member, MethodId};
+use jresolution::juses::{CallUse, Use, code_at};
 use std::alloc::{AllocError, Global};
 
 /// How many methods the class of a number has.
@@ -28,18 +28,18 @@ pub fn op_count(p: &LinkedProgram, m: MethodId) -> Option<usize> {
 
 /// The index of the field or the method that an instruction names.
 fn index_of(op: &Op) -> Option<u16>
-    ensures { result ≡ Referred.reference_of (form op.now) }
+    ensures { result ≡ CodeReferences.reference_of (form op.now) }
 {
     match form_of(op) {
-        Form::Pool(PoolForm::Field(_, i)) => Some(i),
-        Form::Pool(PoolForm::Call(_, i)) => Some(i),
-        Form::Pool(PoolForm::CallInterface(i, _)) => Some(i),
+        OpForm::Pool(PoolForm::Field(_, i)) => Some(i),
+        OpForm::Pool(PoolForm::Call(_, i)) => Some(i),
+        OpForm::Pool(PoolForm::CallInterface(i, _)) => Some(i),
         _ => None,
     }
 }
 
 /// The index of the field or the method that an instruction of a method names, by the place among its instructions.
-#[tactic(auto, using(crate::proofs::Referred::is_referred))]
+#[tactic(auto, using(crate::proofs::CodeReferences::is_referred))]
 fn index_at(p: &LinkedProgram, m: MethodId, place: usize) -> Option<u16>
     ensures { IfSome result (IsReferred p.now m.class) }
 {
@@ -114,7 +114,7 @@ pub fn names_same(
 pub fn call_at(p: &LinkedProgram, m: MethodId, place: usize) -> Option<CallUse> {
     let code = code_at(p.named(), m)?;
     let one = code.ops.get(place)?;
-    let Form::Pool(form) = form_of(&one.op) else {
+    let OpForm::Pool(form) = form_of(&one.op) else {
         return None;
     };
     match p.uses().use_at(m.class, form) {

@@ -3,7 +3,7 @@ use crate::members::{moved_member, moved_selected};
 use crate::references::{call_at, op_count};
 use jlib::open_classes;
 use jlinking::jlink::LinkedProgram;
-use jprogram::{CallKind, ClassId, ClassRef, Member, MethodId};
+use jresolution::jprogram::{CallKind, ClassId, ClassRef, Member, MethodId};
 use jtypes::Name;
 
 const OBJECT: &[u8] = b"java/lang/Object";

@@ -1,6 +1,6 @@
 use crate::answering::answered;
-use jprogram::CodePart;
 use jreadclass::read_class;
+use jresolution::jprogram::CodePart;
 use std::alloc::{AllocError, Global};
 use tests_rows::{Line, Rows, Unread, first, put_hex};
 

@@ -2,10 +2,10 @@ ghost use Rattle.std.specs.Prelude.{◌<◌, length};
 
 use crate::permissions::readings;
 use jctx::{Context, Item, enter, privileged, top};
+use jdomain::{Domains, Verdict};
 use jground::jtext::Units;
+use jinterned::Table;
 use jperm::Permission;
-use jrights::jdomain::{Domains, Verdict};
-use jtable::Table;
 use std::alloc::{AllocError, Global};
 use tests_rows::{Answer, Unread, number};
 

@@ -1,11 +1,11 @@
 ghost use Rattle.std.specs.Prelude.{◌<◌, IsTrue, length};
-ghost use Rattle.jkept.specs.Entries.{AllBelow, Below};
+ghost use Rattle.jsnapshots.specs.SnapshotEntries.{AllBelow, Below};
 
 use crate::permissions::reads;
+use jdomain::{Domains, Verdict};
 use jground::jtext::Units;
-use jkept::{InspectMark, Kept};
 use jperm::Permission;
-use jrights::jdomain::{Domains, Verdict};
+use jsnapshots::{InspectMark, Kept};
 use std::alloc::Global;
 use tests_rows::Unread;
 

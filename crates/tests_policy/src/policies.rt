@@ -1,4 +1,4 @@
-use jground::jbase::Stop;
+use jground::jbase::FaultOrMemory;
 use jground::jtext::Units;
 use jpolicy::{Grant, GrantEntry, Policy, PolicyError, read_policy};
 use std::alloc::Global;
@@ -11,7 +11,7 @@ pub fn policy_of(
     properties: &[(Units, Units)],
 ) -> Result<Policy, PolicyError> {
     if 2_147_483_647 < bytes.len() {
-        return Err(Stop::Memory);
+        return Err(FaultOrMemory::Memory);
     }
     read_policy(alloc, bytes, properties)
 }
@@ -65,7 +65,7 @@ pub fn read(properties: &[(Units, Units)], field: &str, answer: &mut Answer) {
     let bytes = answer.spelled(field);
     match policy_of(answer.alloc(), bytes.as_slice(), properties) {
         Ok(policy) => tell_policy(&policy, answer),
-        Err(Stop::Fault(fault)) => answer.debug_pair(&fault.at, &fault.kind),
-        Err(Stop::Memory) => answer.lack(),
+        Err(FaultOrMemory::Fault(fault)) => answer.debug_pair(&fault.at, &fault.kind),
+        Err(FaultOrMemory::Memory) => answer.lack(),
     }
 }

@@ -1,8 +1,8 @@
-use jground::jbase::{Seq, Stop};
+use jdomain::{CodeSource, SourceError};
+use jground::jbase::{FaultOrMemory, Seq};
 use jground::jtext::Units;
 use jperm::Permission;
 use jpolicy::Grant;
-use jrights::jdomain::{CodeSource, SourceError};
 use std::alloc::Global;
 use tests_rows::{Answer, Unread, bytes_of, string_of, unquoted, yes_or_no};
 
@@ -39,8 +39,8 @@ fn base_of(alloc: Global, field: &str) -> Result<Option<Units>, Unread> {
     let bytes = bytes_of(alloc, unquoted(field)?)?;
     match jground::jtext::units_of(alloc, bytes.as_slice()) {
         Ok(units) => Ok(Some(units)),
-        Err(Stop::Memory) => Err(Unread::Memory),
-        Err(Stop::Fault(_)) => Err(Unread::Line),
+        Err(FaultOrMemory::Memory) => Err(Unread::Memory),
+        Err(FaultOrMemory::Fault(_)) => Err(Unread::Line),
     }
 }
 

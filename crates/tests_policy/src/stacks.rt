@@ -1,9 +1,9 @@
 use crate::kept::{grant, keep, walk};
 use crate::permissions::readings;
 use crate::words::put;
+use jdomain::{Domains, Verdict};
 use jground::jtext::Units;
-use jkept::{InspectMark, Kept};
-use jrights::jdomain::{Domains, Verdict};
+use jsnapshots::{InspectMark, Kept};
 use std::alloc::{AllocError, Global};
 use tests_rows::{Answer, Unread};
 

@@ -1,9 +1,9 @@
 use crate::words::{put, units_of};
 use crate::{contexts, jobs, permissions, policies, sources, stacks};
+use jdomain::{CodeSource, Domains};
 use jground::jtext::Units;
 use jperm::Permission;
 use jpolicy::Policy;
-use jrights::jdomain::{CodeSource, Domains};
 use std::alloc::Global;
 use tests_rows::{Answer, Line, Rows, Unread, bytes_of, first, unquoted, yes_or_no};
 

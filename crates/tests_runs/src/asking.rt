@@ -1,6 +1,6 @@
 use crate::rows::{Asked, Faults, Row, Stored};
-use jmain::javasec;
-use jrights::jio::{MemoryShelf, MemorySink, Shelf};
+use joutput::jio::{MemoryShelf, MemorySink, Shelf};
+use jtop::jmain::javasec;
 use std::alloc::{AllocError, Global};
 use tests_rows::Answer;
 

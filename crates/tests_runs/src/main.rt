@@ -12,8 +12,8 @@ mod asking;
 mod rows;
 
 use asking::is_right;
-use jmain::run;
-use jrights::jio::{RealShelf, Shelf};
+use joutput::jio::{RealShelf, Shelf};
+use jtop::jmain::run;
 use rows::row_of;
 use std::io;
 use std::process::ExitCode;

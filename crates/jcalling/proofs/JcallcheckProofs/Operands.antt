@@ -5,22 +5,22 @@ use Rattle.jlib.specs.declared.calls.ControllerCall.TheVariants as controller
 use Rattle.jlib.specs.declared.calls.LibCall.TheVariants as calls
 use Rattle.jlib.specs.declared.calls.RtCall.TheVariants as rt
 use Rattle.jlib.specs.declared.side.Side.{Side}
-use Rattle.jground.specs.declared.jops.value.Value.{Value}
-use Rattle.jground.specs.declared.jops.value.Value.TheVariants.{Int, Long, Ref, Ctx}
-use Rattle.jmodel.specs.jmachine.Acts.{Row}
-use Rattle.jmodel.specs.jmachine.Asked.{Ask, Checks, checks, checks_kept, context_asks, controller_asks, rt_asks}
-use Rattle.jmodel.specs.jmachine.Asking.{context_row, controller_row, kept_checked, rt_row}
-use Rattle.jmodel.specs.jmachine.Security.{Rules, checked, kept_in}
-use Rattle.jmodel.specs.jmachine.Sites.{Site}
-use Rattle.jmodel.specs.jmachine.Steps.{entries, site}
-use Rattle.jmodel.specs.jmachine.Store.{Store, object_of}
-use Rattle.jmodel.specs.jstate.Framed.{Framed, all}
+use Rattle.jvalues.specs.declared.jops.value.Value.{Value}
+use Rattle.jvalues.specs.declared.jops.value.Value.TheVariants.{Int, Long, Ref, Ctx}
+use Rattle.jsemantics.specs.jmachine.MachineStates.{Row}
+use Rattle.jsemantics.specs.jmachine.AccessQueries.{Ask, Checks, checks, checks_kept, context_asks, controller_asks, rt_asks}
+use Rattle.jsemantics.specs.jmachine.AccessCallRows.{context_row, controller_row, kept_checked, rt_row}
+use Rattle.jsemantics.specs.jmachine.Security.{Rules, checked, kept_in}
+use Rattle.jsemantics.specs.jmachine.InstructionSites.{Site}
+use Rattle.jsemantics.specs.jmachine.MachineSteps.{entries, site}
+use Rattle.jsemantics.specs.jmachine.Store.{Store, object_of}
+use Rattle.jruntime.specs.jstate.FrameLists.{Framed, all}
 use Rattle.jstepping.specs.declared.jcore.machine.Machine.{Machine}
-use Rattle.jstepping.specs.jcore.Answering.{Calling}
-use Rattle.jstepping.specs.jcore.Machines.{state_of, store_of}
-use Rattle.jcalling.specs.declared.jcallcheck.finding.Whom.TheVariants as whom
-use Rattle.jcalling.proofs.JcallcheckProofs.Lasting.{few_of}
-use Rattle.jcalling.specs.jcallcheck.Finding.{Finds, FindsNothing, context_in, here, row_of}
+use Rattle.jstepping.specs.jcore.AnsweredCalls.{Calling}
+use Rattle.jstepping.specs.jcore.MachineInvariants.{state_of, store_of}
+use Rattle.jcalling.specs.declared.jcallcheck.finding.CheckSubject.TheVariants as whom
+use Rattle.jcalling.proofs.JcallcheckProofs.InvariantPreservation.{few_of}
+use Rattle.jcalling.specs.jcallcheck.CheckRequests.{Finds, FindsNothing, context_in, here, row_of}
 
 -- ---- so many operands
 

@@ -1,14 +1,14 @@
 ghost use Rattle.std.specs.Prelude.{◌≡◌, ◌<◌, IfOk, None, OnOk};
-ghost use Rattle.jserving.specs.jinvoke.Faces.{TargetWithin};
-ghost use Rattle.jstepping.specs.jcore.Comings.{Comes, GoesOn, any};
-ghost use Rattle.jstepping.specs.jcore.Machines.{IsMachine, IsReady, StaysFixed, classes_of};
-ghost use Rattle.jcalling.specs.jbegin.Beginning.{BeginsAs, RunTarget, step_of};
+ghost use Rattle.jserving.specs.jinvoke.InterfaceCalls.{TargetWithin};
+ghost use Rattle.jstepping.specs.jcore.MachineOutcomes.{Comes, GoesOn, any};
+ghost use Rattle.jstepping.specs.jcore.MachineInvariants.{IsMachine, IsReady, StaysFixed, classes_of};
+ghost use Rattle.jcalling.specs.jbegin.ThreadStarts.{BeginsAs, RunTarget, step_of};
 
 use crate::jbegin::failing::fail_run;
 use crate::jbegin::pushing::push_run;
 use jground::jbase::Seq;
 use jlibcalls::jcontexts::begin_laws;
-use jmodel::jrun::Came;
+use jruntime::jrun::Came;
 use jserving::jinvoke::{Face, Target};
 use jstepping::jcore::{Machine, end_thread};
 use std::alloc::{AllocError, Global};

@@ -1,14 +1,14 @@
 ghost use Rattle.std.specs.Prelude.{◌≡◌, ◌<◌, IfOk, None, OnOk};
 ghost use Rattle.jserving.specs.declared.jinvoke.faces.Target.TheVariants as targets;
-ghost use Rattle.jstepping.specs.jcore.Comings.{GoesOn};
-ghost use Rattle.jstepping.specs.jcore.Machines.{IsMachine, IsReady, StaysFixed};
-ghost use Rattle.jcalling.specs.jbegin.Beginning.{BeginsAs, FailsIn};
+ghost use Rattle.jstepping.specs.jcore.MachineOutcomes.{GoesOn};
+ghost use Rattle.jstepping.specs.jcore.MachineInvariants.{IsMachine, IsReady, StaysFixed};
+ghost use Rattle.jcalling.specs.jbegin.ThreadStarts.{BeginsAs, FailsIn};
 
 use jground::jbase::Seq;
 use jlib::{LibClass, Thrown};
 use jlibcalls::jcontexts::fail_beginning;
-use jmodel::jrun::Came;
-use jprogram::ClassRef;
+use jresolution::jprogram::ClassRef;
+use jruntime::jrun::Came;
 use jstepping::jcore::{Machine, end_thread, full, machine_laws, tell_uncaught};
 use std::alloc::{AllocError, Global};
 

@@ -1,13 +1,13 @@
 ghost use Rattle.std.specs.Prelude.{◌≡◌, ◌<◌, IfOk, None, OnOk};
 ghost use Rattle.jserving.specs.declared.jinvoke.faces.Target.TheVariants as targets;
-ghost use Rattle.jstepping.specs.jcore.Comings.{GoesOn};
-ghost use Rattle.jstepping.specs.jcore.Machines.{IsReady, StaysFixed, classes_of};
-ghost use Rattle.jcalling.specs.jbegin.Beginning.{BeginsAs};
+ghost use Rattle.jstepping.specs.jcore.MachineOutcomes.{GoesOn};
+ghost use Rattle.jstepping.specs.jcore.MachineInvariants.{IsReady, StaysFixed, classes_of};
+ghost use Rattle.jcalling.specs.jbegin.ThreadStarts.{BeginsAs};
 
 use jground::jbase::Seq;
 use jlibcalls::jcontexts::begin;
-use jmodel::jrun::Came;
 use jrows::jcalls::Callee;
+use jruntime::jrun::Came;
 use jstepping::jcore::{Machine, machine_laws};
 use std::alloc::{AllocError, Global};
 

@@ -1,13 +1,13 @@
 ghost use Rattle.std.specs.Prelude.{◌≡◌, IfOk, OnOk};
-ghost use Rattle.jmodel.specs.jmachine.Asked.{Decided, carried};
-ghost use Rattle.jmodel.specs.jguard.Standing.{AnswersFor, IsKnownIn, Keeps};
-ghost use Rattle.jstepping.specs.jcore.Machines.{state_of};
-ghost use Rattle.jcalling.specs.jcallcheck.Finding.{ask_by};
+ghost use Rattle.jsemantics.specs.jmachine.AccessQueries.{Decided, carried};
+ghost use Rattle.jguard.specs.NumberMeanings.{AnswersFor, IsKnownIn, Keeps};
+ghost use Rattle.jstepping.specs.jcore.MachineInvariants.{state_of};
+ghost use Rattle.jcalling.specs.jcallcheck.CheckRequests.{ask_by};
 
-use crate::jcallcheck::finding::Whom;
-use jmodel::jguard::{Guard, ask_check, ask_kept_check};
+use crate::jcallcheck::finding::CheckSubject;
+use jdomain::Verdict;
+use jguard::{Guard, ask_check, ask_kept_check};
 use jperm::Permission;
-use jrights::jdomain::Verdict;
 use jstepping::jcore::Machine;
 use std::alloc::{AllocError, Global};
 
@@ -16,7 +16,7 @@ pub(crate) fn ask<G: Guard>(
     alloc: Global,
     m: &Machine<'_, '_, G::Mark>,
     guard: &mut G,
-    whom: Whom,
+    whom: CheckSubject,
     asked: &Permission,
 ) -> Result<Verdict, AllocError>
     requires { IsKnownIn (G.kept guard.old) (G.entry guard.old) (state_of m.now) (ask_by whom asked.now) }
@@ -30,7 +30,7 @@ pub(crate) fn ask<G: Guard>(
     let marks = m.marks();
     let inherited = m.guests.running.inherited;
     match whom {
-        Whom::Thread(ctx) => ask_check(alloc, guard, asked, ctx, marks, inherited),
-        Whom::Kept(number) => ask_kept_check(alloc, guard, asked, number, marks, inherited),
+        CheckSubject::Thread(ctx) => ask_check(alloc, guard, asked, ctx, marks, inherited),
+        CheckSubject::Kept(number) => ask_kept_check(alloc, guard, asked, number, marks, inherited),
     }
 }

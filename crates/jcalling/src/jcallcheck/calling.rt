@@ -1,19 +1,19 @@
 ghost use Rattle.std.specs.Prelude.{◌≡◌, Some, None, IfOk, OnOk};
 ghost use Rattle.jlib.specs.declared.calls.LibCall.TheVariants as calls;
-ghost use Rattle.jmodel.specs.jguard.Standing.{AskedOnce, Keeps};
-ghost use Rattle.jmodel.specs.jstate.Framed.{Framed};
-ghost use Rattle.jstepping.specs.jcore.Answering.{Answered, AsksKnown, Calling, asked_of, outcome_of};
-ghost use Rattle.jstepping.specs.jcore.Comings.{GoesOn};
-ghost use Rattle.jstepping.specs.jcore.Machines.{StaysFixed};
-ghost use Rattle.jcalling.specs.jcallcheck.Finding.{Found, IsCheck};
+ghost use Rattle.jguard.specs.NumberMeanings.{AskedOnce, Keeps};
+ghost use Rattle.jruntime.specs.jstate.FrameLists.{Framed};
+ghost use Rattle.jstepping.specs.jcore.AnsweredCalls.{Answered, AsksKnown, Calling, asked_of, outcome_of};
+ghost use Rattle.jstepping.specs.jcore.MachineOutcomes.{GoesOn};
+ghost use Rattle.jstepping.specs.jcore.MachineInvariants.{StaysFixed};
+ghost use Rattle.jcalling.specs.jcallcheck.CheckRequests.{Found, IsCheck};
 
 use crate::jcallcheck::asking::ask;
 use crate::jcallcheck::finding::{Check, check_of, kept_check_of, passing_check_of};
 use crate::jcallcheck::judging::{check_null, decide};
+use jguard::Guard;
 use jlib::{ControllerCall, LibCall, RtCall};
 use jlibcalls::jchecks::{Asked, asks_for, check_laws};
-use jmodel::jguard::Guard;
-use jmodel::jrun::Came;
+use jruntime::jrun::Came;
 use jstepping::jcore::Machine;
 use std::alloc::{AllocError, Global};
 

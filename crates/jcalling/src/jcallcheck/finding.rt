@@ -2,18 +2,18 @@ ghost use Rattle.std.specs.Prelude.{◌≡◌, ◌+◌, Some, slice_get};
 ghost use Rattle.jlib.specs.declared.calls.ControllerCall.TheVariants as controller;
 ghost use Rattle.jlib.specs.declared.calls.LibCall.TheVariants as calls;
 ghost use Rattle.jlib.specs.declared.calls.RtCall.TheVariants as rt;
-ghost use Rattle.jmodel.specs.jstate.Framed.{Framed};
-ghost use Rattle.jstepping.specs.jcore.Answering.{Calling};
-ghost use Rattle.jcalling.specs.jcallcheck.Finding;
-ghost use Rattle.jcalling.specs.jcallcheck.Finding.{Found};
+ghost use Rattle.jruntime.specs.jstate.FrameLists.{Framed};
+ghost use Rattle.jstepping.specs.jcore.AnsweredCalls.{Calling};
+ghost use Rattle.jcalling.specs.jcallcheck.CheckRequests;
+ghost use Rattle.jcalling.specs.jcallcheck.CheckRequests.{Found};
 
-use jground::jops::Value;
 use jlibcalls::jcontexts::kept_of;
 use jstepping::jcore::Machine;
+use jvalues::jops::Value;
 
 /// What is to grant a permission.
 #[derive(Clone, Copy, Debug, PartialEq, Eq)]
-pub enum Whom {
+pub enum CheckSubject {
     /// The running thread, with the context that the call is given on the passing side.
     Thread(Option<u64>),
     /// What an AccessControlContext keeps, by number.
@@ -25,7 +25,7 @@ pub enum Whom {
 pub struct Check {
     /// The operand that names the permission.
     pub operand: Value,
-    pub whom: Whom,
+    pub whom: CheckSubject,
 }
 
 /// An operand of the running thread's newest frame, counted from its newest. It is there.
@@ -50,13 +50,13 @@ pub(crate) fn check_of<M: Copy>(m: &Machine<'_, '_, M>, count: usize) -> Option<
     let operand = operand_at(m, 0);
     Some(Check {
         operand,
-        whom: Whom::Thread(None),
+        whom: CheckSubject::Thread(None),
     })
 }
 
 /// The context that a value is, if it is one.
 fn context_in(value: Value) -> Option<u64>
-    ensures { result ≡ Finding.context_in value }
+    ensures { result ≡ CheckRequests.context_in value }
 {
     match value {
         Value::Int(_) => None,
@@ -80,7 +80,7 @@ pub(crate) fn passing_check_of<M: Copy>(m: &Machine<'_, '_, M>, count: usize) ->
         None => None,
         Some(k) => Some(Check {
             operand,
-            whom: Whom::Thread(Some(k)),
+            whom: CheckSubject::Thread(Some(k)),
         }),
     }
 }
@@ -99,7 +99,7 @@ pub(crate) fn kept_check_of<M: Copy>(m: &Machine<'_, '_, M>, count: usize) -> Op
         None => None,
         Some(number) => Some(Check {
             operand,
-            whom: Whom::Kept(number),
+            whom: CheckSubject::Kept(number),
         }),
     }
 }

@@ -1,13 +1,13 @@
 ghost use Rattle.std.specs.Prelude.{◌≡◌, IfOk, OnOk};
 ghost use Rattle.std.specs.Option.{option_copied};
-ghost use Rattle.jmodel.specs.jmachine.Asked.{Allowed, Entered, Enters, Kept, Snapshots, carried};
-ghost use Rattle.jmodel.specs.jguard.Standing.{AnswersFor, IsKnownIn, Keeps};
-ghost use Rattle.jstepping.specs.jcore.Machines.{state_of};
-ghost use Rattle.jcalling.specs.jcallcontext.Finding.{privilege_of};
+ghost use Rattle.jsemantics.specs.jmachine.AccessQueries.{Allowed, Entered, Enters, Kept, Snapshots, carried};
+ghost use Rattle.jguard.specs.NumberMeanings.{AnswersFor, IsKnownIn, Keeps};
+ghost use Rattle.jstepping.specs.jcore.MachineInvariants.{state_of};
+ghost use Rattle.jcalling.specs.jcallcontext.ContextRequests.{privilege_of};
 
 use jground::jbase::Seq;
+use jguard::{Guard, Marked, ask_enter, ask_privilege, ask_snapshot};
 use jlibcalls::jcontexts::{Entering, Wanted};
-use jmodel::jguard::{Guard, Marked, ask_enter, ask_privilege, ask_snapshot};
 use jperm::Permission;
 use jstepping::jcore::Machine;
 use std::alloc::{AllocError, Global};

@@ -1,21 +1,21 @@
 ghost use Rattle.std.specs.Prelude.{◌≡◌, ◌∷◌, [], IfOk, OnOk, Some};
 ghost use Rattle.jlib.specs.declared.calls.LibCall.TheVariants as calls;
 ghost use Rattle.jlib.specs.declared.calls.RtCall.TheVariants as rt;
-ghost use Rattle.jground.specs.declared.jops.value.Value.TheVariants.{Ctx};
-ghost use Rattle.jmodel.specs.jmachine.Acts.{gives};
-ghost use Rattle.jmodel.specs.jguard.Standing.{Keeps};
-ghost use Rattle.jstepping.specs.jcore.Answering.{Calling};
-ghost use Rattle.jstepping.specs.jcore.Comings.{GoesOn, any};
-ghost use Rattle.jstepping.specs.jcore.Machines.{StaysFixed, store_of};
-ghost use Rattle.jcalling.specs.jcallcontext.Rows.{CallAnswered, CallKnown, CallOnce, CallQuiet, ComesBy};
+ghost use Rattle.jvalues.specs.declared.jops.value.Value.TheVariants.{Ctx};
+ghost use Rattle.jsemantics.specs.jmachine.MachineStates.{gives};
+ghost use Rattle.jguard.specs.NumberMeanings.{Keeps};
+ghost use Rattle.jstepping.specs.jcore.AnsweredCalls.{Calling};
+ghost use Rattle.jstepping.specs.jcore.MachineOutcomes.{GoesOn, any};
+ghost use Rattle.jstepping.specs.jcore.MachineInvariants.{StaysFixed, store_of};
+ghost use Rattle.jcalling.specs.jcallcontext.ContextCallRows.{CallAnswered, CallKnown, CallOnce, CallQuiet, ComesBy};
 
 use crate::jcallcontext::asking::ask_entered;
 use crate::jcallcontext::finding::entering_found;
 use jground::jbase::Seq;
+use jguard::Guard;
 use jlibcalls::jchecks::check_laws;
 use jlibcalls::jcontexts::enter;
-use jmodel::jguard::Guard;
-use jmodel::jrun::Came;
+use jruntime::jrun::Came;
 use jstepping::jcore::{Machine, machine_laws};
 use std::alloc::{AllocError, Global};
 

@@ -1,17 +1,17 @@
 ghost use Rattle.std.specs.Prelude.{◌≡◌, IfOk, OnOk, Some, drop};
 ghost use Rattle.jlib.specs.declared.classes.LibClass.TheVariants as lib;
-ghost use Rattle.jmodel.specs.jmachine.Acts.{raises};
-ghost use Rattle.jmodel.specs.jstate.Framed.{Framed, holding};
-ghost use Rattle.jstepping.specs.jcore.Answering.{Calling};
-ghost use Rattle.jstepping.specs.jcore.Comings.{GoesOn, any};
-ghost use Rattle.jstepping.specs.jcore.Left.{left_as};
-ghost use Rattle.jstepping.specs.jcore.Machines.{StaysFixed, things_of};
-ghost use Rattle.jcalling.specs.jcallcontext.Rows.{ComesBy};
+ghost use Rattle.jsemantics.specs.jmachine.MachineStates.{raises};
+ghost use Rattle.jruntime.specs.jstate.FrameLists.{Framed, holding};
+ghost use Rattle.jstepping.specs.jcore.AnsweredCalls.{Calling};
+ghost use Rattle.jstepping.specs.jcore.MachineOutcomes.{GoesOn, any};
+ghost use Rattle.jstepping.specs.jcore.MidStepMachines.{left_as};
+ghost use Rattle.jstepping.specs.jcore.MachineInvariants.{StaysFixed, things_of};
+ghost use Rattle.jcalling.specs.jcallcontext.ContextCallRows.{ComesBy};
 
 use jground::jbase::Seq;
 use jlib::Thrown;
 use jlibcalls::jcontexts::fail_law;
-use jmodel::jrun::Came;
+use jruntime::jrun::Came;
 use jstepping::jcore::{Machine, machine_laws, raise};
 use std::alloc::{AllocError, Global};
 

@@ -1,15 +1,15 @@
 ghost use Rattle.std.specs.Prelude.{◌≡◌, IfOk, Some};
-ghost use Rattle.jmodel.specs.jstate.Framed.{Framed};
-ghost use Rattle.jlibcalls.specs.jcontexts.Entering.{snapshot_call};
-ghost use Rattle.jlibcalls.specs.jcontexts.Requests.{call_of};
-ghost use Rattle.jstepping.specs.jcore.Answering.{Calling};
-ghost use Rattle.jserving.specs.jinvoke.Faces.{TargetWithin};
-ghost use Rattle.jstepping.specs.jcore.Machines.{IsMachine, classes_of};
-ghost use Rattle.jcalling.specs.jcallcontext.Finding.{ActionTarget, FoundEntering, FoundPrivilege, FoundSnapshot, IsPrivileged, IsSnapshot, is_full};
+ghost use Rattle.jruntime.specs.jstate.FrameLists.{Framed};
+ghost use Rattle.jlibcalls.specs.jcontexts.DomainEntries.{snapshot_call};
+ghost use Rattle.jlibcalls.specs.jcontexts.PrivilegeRequests.{call_of};
+ghost use Rattle.jstepping.specs.jcore.AnsweredCalls.{Calling};
+ghost use Rattle.jserving.specs.jinvoke.InterfaceCalls.{TargetWithin};
+ghost use Rattle.jstepping.specs.jcore.MachineInvariants.{IsMachine, classes_of};
+ghost use Rattle.jcalling.specs.jcallcontext.ContextRequests.{ActionTarget, FoundEntering, FoundPrivilege, FoundSnapshot, IsPrivileged, IsSnapshot, is_full};
 
 use jlib::{ControllerCall, LibCall, RtCall, Side};
 use jlibcalls::jcontexts::{
-    Entering, Form, Privileging, find_entering, find_privilege, snapshotting,
+    Entering, PrivilegedForm, Privileging, find_entering, find_privilege, snapshotting,
 };
 use jserving::jinvoke::{Face, Target};
 use jstepping::jcore::Machine;
@@ -56,17 +56,23 @@ pub(crate) fn entering_found<M: Copy>(m: &Machine<'_, '_, M>, count: usize) -> O
 }
 
 /// Which form of doPrivileged a call is.
-fn form_of(call: LibCall) -> (Side, Form)
+fn form_of(call: LibCall) -> (Side, PrivilegedForm)
     requires { IsPrivileged call }
     ensures { call_of result.0 result.1 ≡ call }
 {
     match call {
-        LibCall::Controller(ControllerCall::Privileged) => (Side::Source, Form::Alone),
-        LibCall::Controller(ControllerCall::PrivilegedWith) => (Side::Source, Form::Within),
-        LibCall::Controller(ControllerCall::PrivilegedLimited) => (Side::Source, Form::Limited),
-        LibCall::Rt(RtCall::Privileged) => (Side::Passing, Form::Alone),
-        LibCall::Rt(RtCall::PrivilegedWith) => (Side::Passing, Form::Within),
-        LibCall::Rt(RtCall::PrivilegedLimited) => (Side::Passing, Form::Limited),
+        LibCall::Controller(ControllerCall::Privileged) => (Side::Source, PrivilegedForm::Alone),
+        LibCall::Controller(ControllerCall::PrivilegedWith) => (
+            Side::Source,
+            PrivilegedForm::Within,
+        ),
+        LibCall::Controller(ControllerCall::PrivilegedLimited) => (
+            Side::Source,
+            PrivilegedForm::Limited,
+        ),
+        LibCall::Rt(RtCall::Privileged) => (Side::Passing, PrivilegedForm::Alone),
+        LibCall::Rt(RtCall::PrivilegedWith) => (Side::Passing, PrivilegedForm::Within),
+        LibCall::Rt(RtCall::PrivilegedLimited) => (Side::Passing, PrivilegedForm::Limited),
         _ => unreachable!(),
     }
 }
@@ -105,7 +111,7 @@ pub(crate) fn privilege_found<M: Copy>(
 }
 
 /// Whether the running thread has all frames that it may have.
-#[tactic(auto, using(crate::proofs::JcallcontextProofs::Found::full_is))]
+#[tactic(auto, using(crate::proofs::JcallcontextProofs::ContextRequests::full_is))]
 pub(crate) fn has_all<M: Copy>(m: &Machine<'_, '_, M>, count: usize) -> bool
     requires { Calling m.now count }
     ensures { (f : Framed M) → m.now.guests.running.frames ≡ Some f → is_full m.now f ≡ result }

@@ -1,20 +1,20 @@
 ghost use Rattle.std.specs.Prelude.{◌≡◌, IfOk, OnOk, Some};
-ghost use Rattle.jmodel.specs.jmachine.Asking.{context_made};
-ghost use Rattle.jmodel.specs.jguard.Standing.{Keeps};
-ghost use Rattle.jstepping.specs.jcore.Answering.{Calling};
-ghost use Rattle.jstepping.specs.jcore.Comings.{GoesOn, any};
-ghost use Rattle.jstepping.specs.jcore.Machines.{StaysFixed, store_of};
-ghost use Rattle.jcalling.specs.jcallcontext.Finding.{IsSnapshot};
-ghost use Rattle.jcalling.specs.jcallcontext.Rows.{CallAnswered, CallKnown, CallOnce, CallQuiet, ComesBy};
+ghost use Rattle.jsemantics.specs.jmachine.AccessCallRows.{context_made};
+ghost use Rattle.jguard.specs.NumberMeanings.{Keeps};
+ghost use Rattle.jstepping.specs.jcore.AnsweredCalls.{Calling};
+ghost use Rattle.jstepping.specs.jcore.MachineOutcomes.{GoesOn, any};
+ghost use Rattle.jstepping.specs.jcore.MachineInvariants.{StaysFixed, store_of};
+ghost use Rattle.jcalling.specs.jcallcontext.ContextRequests.{IsSnapshot};
+ghost use Rattle.jcalling.specs.jcallcontext.ContextCallRows.{CallAnswered, CallKnown, CallOnce, CallQuiet, ComesBy};
 
 use crate::jcallcontext::asking::ask_kept;
 use crate::jcallcontext::finding::snapshot_found;
 use jground::jbase::Seq;
+use jguard::Guard;
 use jlib::LibCall;
 use jlibcalls::jchecks::check_laws;
 use jlibcalls::jcontexts::snapshot;
-use jmodel::jguard::Guard;
-use jmodel::jrun::Came;
+use jruntime::jrun::Came;
 use jstepping::jcore::{Machine, full, machine_laws};
 use std::alloc::{AllocError, Global};
 

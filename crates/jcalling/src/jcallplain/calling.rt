@@ -1,16 +1,16 @@
 ghost use Rattle.std.specs.Prelude.{◌≡◌, IfOk, OnOk, Some};
-ghost use Rattle.jmodel.specs.jstate.Framed.{Framed};
-ghost use Rattle.jlibcalls.specs.jlibrary.Ran.{IsAskFree};
-ghost use Rattle.jstepping.specs.jcore.Answering.{Calling, outcome_of};
-ghost use Rattle.jstepping.specs.jcore.Comings.{Comes, GoesOn, any};
-ghost use Rattle.jstepping.specs.jcore.Machines.{StaysFixed};
-ghost use Rattle.jcalling.specs.jcallplain.Running.{MayTell};
+ghost use Rattle.jruntime.specs.jstate.FrameLists.{Framed};
+ghost use Rattle.jlibcalls.specs.jlibrary.LibraryOutcomes.{IsAskFree};
+ghost use Rattle.jstepping.specs.jcore.AnsweredCalls.{Calling, outcome_of};
+ghost use Rattle.jstepping.specs.jcore.MachineOutcomes.{Comes, GoesOn, any};
+ghost use Rattle.jstepping.specs.jcore.MachineInvariants.{StaysFixed};
+ghost use Rattle.jcalling.specs.jcallplain.LibraryRuns.{MayTell};
 
 use crate::jcallplain::running::run_call;
 use crate::jcallplain::settling::{events_of, settle};
 use jlib::LibCall;
 use jlibcalls::jlibrary::Done;
-use jmodel::jrun::Came;
+use jruntime::jrun::Came;
 use jstepping::jcore::{Machine, machine_laws};
 use jstepping::jstep::behind_laws;
 use std::alloc::{AllocError, Global};

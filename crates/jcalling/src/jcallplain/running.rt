@@ -1,12 +1,12 @@
 ghost use Rattle.std.specs.Prelude.{IfOk, OnOk};
-ghost use Rattle.jlibcalls.specs.jlibrary.Ran.{IsAskFree};
-ghost use Rattle.jstepping.specs.jcore.Answering.{Calling};
-ghost use Rattle.jstepping.specs.jcore.Machines.{StaysFixed};
-ghost use Rattle.jcalling.specs.jcallplain.Running.{MayTell, RanIn};
+ghost use Rattle.jlibcalls.specs.jlibrary.LibraryOutcomes.{IsAskFree};
+ghost use Rattle.jstepping.specs.jcore.AnsweredCalls.{Calling};
+ghost use Rattle.jstepping.specs.jcore.MachineInvariants.{StaysFixed};
+ghost use Rattle.jcalling.specs.jcallplain.LibraryRuns.{MayTell, RanIn};
 
 use jlib::LibCall;
-use jlibcalls::jlibrary::{Done, Fixed, run};
-use jserving::jshapes::alike_laws;
+use jlibcalls::jlibrary::{CallEnvironment, Done, run};
+use jserving::jcells::alike_laws;
 use jstepping::jcore::{Machine, machine_laws};
 use std::alloc::{AllocError, Global};
 
@@ -25,7 +25,7 @@ pub(crate) fn run_call<M: Copy>(
 {
     machine_laws::<M>();
     alike_laws::<M>();
-    let fixed = Fixed {
+    let fixed = CallEnvironment {
         shapes: m.fixed.shapes,
         cwd: &m.plan.cwd,
         thread: m.guests.at,

@@ -1,13 +1,13 @@
 ghost use Rattle.std.specs.Prelude.{◌≡◌, IfOk, OnOk};
 ghost use Rattle.std.specs.Option.{option_to_list};
-ghost use Rattle.jstepping.specs.jcore.Comings.{GoesOn};
-ghost use Rattle.jstepping.specs.jcore.Machines.{StaysFixed};
-ghost use Rattle.jcalling.specs.jcallplain.Ways.{IsLeft, Settles};
+ghost use Rattle.jstepping.specs.jcore.MachineOutcomes.{GoesOn};
+ghost use Rattle.jstepping.specs.jcore.MachineInvariants.{StaysFixed};
+ghost use Rattle.jcalling.specs.jcallplain.CallRowOutcomes.{IsLeft, Settles};
 
 use jground::jbase::Seq;
-use jmodel::jrun::Came;
-use jrights::jtrace::Event;
+use joutput::jtrace::Event;
 use jrows::jacts::Way;
+use jruntime::jrun::Came;
 use jstepping::jcore::{Machine, full, raise};
 use jstepping::jstep::thrown_class;
 use std::alloc::{AllocError, Global};

@@ -1,28 +1,28 @@
 ghost use Rattle.std.specs.Prelude.{◌≡◌, IfOk, OnOk, length};
-ghost use Rattle.jprogram.specs.Classes.{Program};
-ghost use Rattle.jmodel.specs.jstate.Celled.{AreCelled};
-ghost use Rattle.jmodel.specs.jstate.Seen.{AreBuilt, Things};
-ghost use Rattle.jrows.specs.jcalls.Marks.{AreStanding};
+ghost use Rattle.jresolution.specs.jprogram.ProgramClasses.{Program};
+ghost use Rattle.jruntime.specs.jstate.ObjectCells.{AreCelled};
+ghost use Rattle.jruntime.specs.jstate.HeapMeanings.{AreBuilt, Things};
+ghost use Rattle.jrows.specs.jcalls.FrameMarks.{AreStanding};
 ghost use Rattle.jrows.specs.jcalls.Readiness.{AreCounted};
-ghost use Rattle.jstepping.specs.jrefs.References.{IsLasting};
-ghost use Rattle.jstepping.specs.jstep.Stepping.{IsFixed, StepsAlike, StoodAs};
-ghost use Rattle.jcalling.specs.jexecute.Advancing.{Advances, Fetches, lasting_by};
+ghost use Rattle.jstepping.specs.jrefs.ReferenceRows.{IsLasting};
+ghost use Rattle.jstepping.specs.jstep.StepRelation.{IsFixed, StepsAlike, StoodAs};
+ghost use Rattle.jcalling.specs.jexecute.FrameSteps.{Advances, Fetches, lasting_by};
 
 use crate::jexecute::grouping::{Group, group_of};
 use crate::jexecute::loading::step_load;
 use crate::jexecute::referring::step_refs;
-use jheap::Heap;
 use jlibcalls::jconstants::Constants;
-use jmodel::jstate::Frames;
+use jmemory::jheap::Heap;
 use jready::{Instr, MethodRow};
 use jrows::jcalls::Counts;
+use jruntime::jstate::Frames;
 use jserving::jinvoke::{Calls, step_laws};
-use jstepping::jstep::{Fixed, Stepped};
+use jstepping::jstep::{RunTables, Stepped};
 use std::alloc::{AllocError, Global};
 
 /// The instruction at which the newest frame of a thread stands.
 #[inline]
-fn instr_at<M: Copy>(frames: &Frames<M>, fixed: &Fixed<'_, '_, M>) -> Instr
+fn instr_at<M: Copy>(frames: &Frames<M>, fixed: &RunTables<'_, '_, M>) -> Instr
     ensures { (p : Program) → IsFixed p fixed.now → Fetches p fixed.now frames.now.newest result }
 {
     match fixed.ready.row_of(frames.method()) {
@@ -39,7 +39,7 @@ pub(crate) fn site_of(row: &MethodRow, place: u32) -> usize {
 
 /// The number of the instruction at which the newest frame of a thread stands.
 #[inline]
-fn site_at<M: Copy>(frames: &Frames<M>, fixed: &Fixed<'_, '_, M>) -> usize {
+fn site_at<M: Copy>(frames: &Frames<M>, fixed: &RunTables<'_, '_, M>) -> usize {
     match fixed.ready.row_of(frames.method()) {
         None => usize::MAX,
         Some(row) => site_of(&row, frames.place()),
@@ -53,7 +53,7 @@ fn step_at<M: Copy>(
     frames: &mut Frames<M>,
     heap: &mut Heap,
     constants: &mut Constants<'_>,
-    fixed: &Fixed<'_, '_, M>,
+    fixed: &RunTables<'_, '_, M>,
     calls: &mut Calls<'_>,
     counts: Counts,
     one: Instr,
@@ -94,7 +94,7 @@ pub(crate) fn advance<M: Copy>(
     frames: &mut Frames<M>,
     heap: &mut Heap,
     constants: &mut Constants<'_>,
-    fixed: &Fixed<'_, '_, M>,
+    fixed: &RunTables<'_, '_, M>,
     calls: &mut Calls<'_>,
     counts: Counts,
 ) -> Result<Stepped, AllocError>

@@ -1,16 +1,16 @@
 ghost use Rattle.std.specs.Prelude.{◌≡◌, IfOk, OnOk};
-ghost use Rattle.jmodel.specs.jguests.Guested.{Lives};
-ghost use Rattle.jlinking.specs.jlink.Links.{Links};
-ghost use Rattle.jstepping.specs.jcore.Comings.{IsOwn, LeftStand};
-ghost use Rattle.jstepping.specs.jcore.Machines.{IsMachine, IsReady, StaysFixed, counts_of};
-ghost use Rattle.jcalling.specs.jexecute.Executing.{Ends, Executes, Finishes, HasFrames, HasRules, Moves, StaysMachine};
+ghost use Rattle.jruntime.specs.jguests.GuestThreads.{Lives};
+ghost use Rattle.jlinking.specs.jlink.LinkedPrograms.{Links};
+ghost use Rattle.jstepping.specs.jcore.MachineOutcomes.{IsOwn, LeftStand};
+ghost use Rattle.jstepping.specs.jcore.MachineInvariants.{IsMachine, IsReady, StaysFixed, counts_of};
+ghost use Rattle.jcalling.specs.jexecute.ThreadSteps.{Ends, Executes, Finishes, HasFrames, HasRules, Moves, StaysMachine};
 
 use crate::jexecute::advancing::advance;
 use jlib::LibCall;
-use jmodel::jguests::guest_laws;
-use jmodel::jrun::Came;
 use jrows::jcalls::Counts;
-use jserving::jshapes::alike_laws;
+use jruntime::jguests::guest_laws;
+use jruntime::jrun::Came;
+use jserving::jcells::alike_laws;
 use jstepping::jcore::{Machine, settle};
 use jstepping::jtold::told_law;
 use std::alloc::{AllocError, Global};

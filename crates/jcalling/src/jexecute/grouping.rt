@@ -2,11 +2,11 @@ ghost use Rattle.std.specs.Prelude.{ℕ};
 ghost use Rattle.jready.specs.declared.instr.ArrayInstr.TheVariants as arrays;
 ghost use Rattle.jready.specs.declared.instr.FlowInstr.TheVariants as flows;
 ghost use Rattle.jready.specs.declared.instr.Instr.TheVariants as instrs;
-ghost use Rattle.jcalling.specs.jexecute.Advancing.{IsOf};
+ghost use Rattle.jcalling.specs.jexecute.FrameSteps.{IsOf};
 
-use jmeaning::juses::When;
 use jparts::jcode::Element;
 use jready::{ArrayInstr, FlowInstr, Instr, Push};
+use jresolution::juses::Condition;
 
 /// Where the row of an instruction is found.
 #[derive(Clone, Copy, Debug, PartialEq, Eq)]
@@ -35,14 +35,14 @@ fn push_group(f: Push) -> Group
 
 /// That of a branch.
 #[inline]
-fn jump_group(when: When) -> Group
+fn jump_group(when: Condition) -> Group
     ensures { (to : ℕ) → IsOf (instrs.Flow (flows.Jump when to)) result }
 {
     match when {
-        When::Always => Group::Others,
-        When::If(_) => Group::Others,
-        When::IfInt(_) => Group::Others,
-        When::IfRef(_) => Group::References,
+        Condition::Always => Group::Others,
+        Condition::If(_) => Group::Others,
+        Condition::IfInt(_) => Group::Others,
+        Condition::IfRef(_) => Group::References,
     }
 }
 

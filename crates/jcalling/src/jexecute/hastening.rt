@@ -2,32 +2,32 @@ ghost use Rattle.std.specs.Prelude.{◌≡◌, ℕ, IfOk, None, OnOk, Some, leng
 ghost use Rattle.jready.specs.declared.instr.ArrayInstr.TheVariants as arrays;
 ghost use Rattle.jready.specs.declared.instr.FlowInstr.TheVariants as flows;
 ghost use Rattle.jready.specs.declared.instr.Instr.TheVariants as instrs;
-ghost use Rattle.jready.specs.Prepared.{IsRow};
-ghost use Rattle.jmodel.specs.jstate.Celled.{AreCelled};
-ghost use Rattle.jmodel.specs.jstate.Seen.{AreBuilt};
-ghost use Rattle.jrows.specs.jcalls.Marks.{AreStanding};
-ghost use Rattle.jstepping.specs.jrefs.References.{IsLasting};
-ghost use Rattle.jstepping.specs.jstep.Stepping.{IsFixed};
-ghost use Rattle.jstepping.specs.jcore.Machines.{IsReady, StaysFixed};
-ghost use Rattle.jcalling.specs.jexecute.Advancing.{Fetches, lasting_by};
-ghost use Rattle.jcalling.specs.jexecute.Executing.{HasRules};
-ghost use Rattle.jcalling.specs.jexecute.Hastening.{Begins, Hastens, IsQuickOf, StayedWithin, Tries, Turns, WereMade, program_of, quick_as, turned_as};
+ghost use Rattle.jready.specs.PreparedPrograms.{IsRow};
+ghost use Rattle.jruntime.specs.jstate.ObjectCells.{AreCelled};
+ghost use Rattle.jruntime.specs.jstate.HeapMeanings.{AreBuilt};
+ghost use Rattle.jrows.specs.jcalls.FrameMarks.{AreStanding};
+ghost use Rattle.jstepping.specs.jrefs.ReferenceRows.{IsLasting};
+ghost use Rattle.jstepping.specs.jstep.StepRelation.{IsFixed};
+ghost use Rattle.jstepping.specs.jcore.MachineInvariants.{IsReady, StaysFixed};
+ghost use Rattle.jcalling.specs.jexecute.FrameSteps.{Fetches, lasting_by};
+ghost use Rattle.jcalling.specs.jexecute.ThreadSteps.{HasRules};
+ghost use Rattle.jcalling.specs.jexecute.FastSteps.{Begins, Hastens, IsQuickOf, StayedWithin, Tries, Turns, WereMade, program_of, quick_as, turned_as};
 
 use crate::jexecute::advancing::site_of;
 use crate::jexecute::executing::{Executed, finish, kept_counts, linked};
-use jheap::Heap;
-use jmeaning::juses::When;
-use jmodel::jguests::guest_laws;
-use jmodel::jstate::Frames;
+use jmemory::jheap::Heap;
 use jparts::jcode::Element;
 use jready::{ArrayInstr, FlowInstr, Instr, MethodRow, Push};
+use jresolution::juses::Condition;
 use jrows::jacts::Way;
 use jrows::jcalls::Counts;
+use jruntime::jguests::guest_laws;
+use jruntime::jstate::Frames;
+use jserving::jcells::alike_laws;
 use jserving::jinvoke::{Calls, step_laws};
-use jserving::jshapes::alike_laws;
 use jstepping::jcore::Machine;
 use jstepping::jrefs::Lasting;
-use jstepping::jstep::{Fixed, Stepped, behind_laws};
+use jstepping::jstep::{RunTables, Stepped, behind_laws};
 use jstepping::jtold::told_law;
 use std::alloc::{AllocError, Global};
 
@@ -69,14 +69,14 @@ fn haste_of_push(f: Push) -> Haste
 }
 
 #[inline]
-fn haste_of_jump(when: When) -> Haste
+fn haste_of_jump(when: Condition) -> Haste
     ensures { (to : ℕ) → IsQuickOf (instrs.Flow (flows.Jump when to)) result }
 {
     match when {
-        When::Always => Haste::Row,
-        When::If(_) => Haste::Row,
-        When::IfInt(_) => Haste::Row,
-        When::IfRef(_) => Haste::Reference,
+        Condition::Always => Haste::Row,
+        Condition::If(_) => Haste::Row,
+        Condition::IfInt(_) => Haste::Row,
+        Condition::IfRef(_) => Haste::Reference,
     }
 }
 
@@ -161,7 +161,7 @@ fn hasten_at<M: Copy>(
     alloc: Global,
     frames: &mut Frames<M>,
     heap: &mut Heap,
-    fixed: &Fixed<'_, '_, M>,
+    fixed: &RunTables<'_, '_, M>,
     counts: Counts,
     one: Instr,
 ) -> Result<Quick, AllocError>
@@ -208,7 +208,7 @@ fn hasten_within<M: Copy>(
     alloc: Global,
     frames: &mut Frames<M>,
     heap: &mut Heap,
-    fixed: &Fixed<'_, '_, M>,
+    fixed: &RunTables<'_, '_, M>,
     counts: Counts,
     row: MethodRow,
     most: u64,
@@ -274,7 +274,7 @@ fn turn<M: Copy>(
     alloc: Global,
     frames: &mut Frames<M>,
     heap: &mut Heap,
-    fixed: &Fixed<'_, '_, M>,
+    fixed: &RunTables<'_, '_, M>,
     calls: &mut Calls<'_>,
     counts: Counts,
     row: MethodRow,
@@ -336,7 +336,7 @@ fn hasten_frames<M: Copy>(
     alloc: Global,
     frames: &mut Frames<M>,
     heap: &mut Heap,
-    fixed: &Fixed<'_, '_, M>,
+    fixed: &RunTables<'_, '_, M>,
     calls: &mut Calls<'_>,
     counts: Counts,
     most: u64,

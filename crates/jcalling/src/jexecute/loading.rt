@@ -1,22 +1,22 @@
 ghost use Rattle.std.specs.Prelude.{◌≡◌, ◌<◌, ◌+◌, ◌^◌, ℕ, IfOk, OnOk, length};
 ghost use Rattle.jready.specs.declared.instr.Instr.TheVariants as instrs;
 ghost use Rattle.jready.specs.declared.instr.Push.TheVariants as pushes;
-ghost use Rattle.jmodel.specs.jstate.Celled.{AreCelled};
-ghost use Rattle.jmodel.specs.jstate.Framed.{all};
-ghost use Rattle.jmodel.specs.jstate.Seen.{AreBuilt, Things};
+ghost use Rattle.jruntime.specs.jstate.ObjectCells.{AreCelled};
+ghost use Rattle.jruntime.specs.jstate.FrameLists.{all};
+ghost use Rattle.jruntime.specs.jstate.HeapMeanings.{AreBuilt, Things};
 ghost use Rattle.jrows.specs.declared.jcalls.ready.Counts.{Counts as CountsOf};
-ghost use Rattle.jrows.specs.jcalls.Marks.{Stand};
-ghost use Rattle.jlibcalls.specs.jconstants.Loads.{RaisesNothing};
-ghost use Rattle.jstepping.specs.jstep.Stepping.{IsFixed, StepsAlike, StoodAs};
-ghost use Rattle.jcalling.specs.jexecute.Advancing.{Advances, Fetches, quiet_as};
+ghost use Rattle.jrows.specs.jcalls.FrameMarks.{Stand};
+ghost use Rattle.jlibcalls.specs.jconstants.ConstantLoads.{RaisesNothing};
+ghost use Rattle.jstepping.specs.jstep.StepRelation.{IsFixed, StepsAlike, StoodAs};
+ghost use Rattle.jcalling.specs.jexecute.FrameSteps.{Advances, Fetches, quiet_as};
 
-use jheap::Heap;
 use jlibcalls::jconstants::Constants;
-use jmodel::jstate::Frames;
+use jmemory::jheap::Heap;
 use jrows::jacts::Way;
+use jruntime::jstate::Frames;
+use jserving::jcells::alike_laws;
 use jserving::jinvoke::step_laws;
-use jserving::jshapes::alike_laws;
-use jstepping::jstep::{Fixed, Stepped, behind_laws};
+use jstepping::jstep::{RunTables, Stepped, behind_laws};
 use std::alloc::{AllocError, Global};
 
 /// What a step came to whose row raises and throws nothing.
@@ -41,7 +41,7 @@ pub(crate) fn step_load<M: Copy>(
     frames: &mut Frames<M>,
     heap: &mut Heap,
     constants: &mut Constants<'_>,
-    fixed: &Fixed<'_, '_, M>,
+    fixed: &RunTables<'_, '_, M>,
     index: u16,
 ) -> Result<Stepped, AllocError>
     requires fixed { IsFixed constants.old.program fixed.now }

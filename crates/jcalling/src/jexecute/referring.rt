@@ -1,20 +1,20 @@
 ghost use Rattle.std.specs.Prelude.{◌≡◌, ◌<◌, ◌+◌, ◌^◌, ℕ, IfOk, List, OnOk, length};
-ghost use Rattle.jmodel.specs.jstate.Celled.{AreCelled};
-ghost use Rattle.jmodel.specs.jstate.Framed.{all};
-ghost use Rattle.jmodel.specs.jstate.Seen.{AreBuilt, Things};
-ghost use Rattle.jrows.specs.jcalls.Marks.{Stand};
+ghost use Rattle.jruntime.specs.jstate.ObjectCells.{AreCelled};
+ghost use Rattle.jruntime.specs.jstate.FrameLists.{all};
+ghost use Rattle.jruntime.specs.jstate.HeapMeanings.{AreBuilt, Things};
+ghost use Rattle.jrows.specs.jcalls.FrameMarks.{Stand};
 ghost use Rattle.jrows.specs.jcalls.Readiness.{AreCounted};
-ghost use Rattle.jstepping.specs.jrefs.References.{IsHere, IsLasting};
-ghost use Rattle.jstepping.specs.jstep.Stepping.{IsFixed, StepsAlike, StoodAs};
-ghost use Rattle.jcalling.specs.jexecute.Advancing.{Advances, Fetches, lasting_by};
+ghost use Rattle.jstepping.specs.jrefs.ReferenceRows.{IsHere, IsLasting};
+ghost use Rattle.jstepping.specs.jstep.StepRelation.{IsFixed, StepsAlike, StoodAs};
+ghost use Rattle.jcalling.specs.jexecute.FrameSteps.{Advances, Fetches, lasting_by};
 
-use jheap::Heap;
-use jmodel::jstate::Frames;
+use jmemory::jheap::Heap;
 use jready::Instr;
 use jrows::jcalls::Counts;
-use jserving::jinvoke::{Known, step_laws};
+use jruntime::jstate::Frames;
+use jserving::jinvoke::{MethodLookup, step_laws};
 use jstepping::jrefs::Lasting;
-use jstepping::jstep::{Fixed, Stepped, behind_laws, settle};
+use jstepping::jstep::{RunTables, Stepped, behind_laws, settle};
 use std::alloc::{AllocError, Global};
 
 /// A step with references.
@@ -22,8 +22,8 @@ pub(crate) fn step_refs<M: Copy>(
     alloc: Global,
     frames: &mut Frames<M>,
     heap: &mut Heap,
-    fixed: &Fixed<'_, '_, M>,
-    known: &Known<'_>,
+    fixed: &RunTables<'_, '_, M>,
+    known: &MethodLookup<'_>,
     counts: Counts,
     one: Instr,
 ) -> Result<Stepped, AllocError>

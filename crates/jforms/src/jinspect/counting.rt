@@ -1,18 +1,18 @@
 ghost use Rattle.std.specs.Prelude.{◌≡◌, IfOk};
-ghost use Rattle.jrights.specs.jdomain.Domains.{has};
+ghost use Rattle.jdomain.specs.Domains.{has};
 ghost use Rattle.jlib.specs.declared.side.Side.TheVariants.{Source};
-ghost use Rattle.jmodel.specs.jmachine.Machine.{run};
-ghost use Rattle.jmodel.specs.jrules.Inspecting.{rules as inspecting};
-ghost use Rattle.jprogram.specs.Members.{IsMain};
-ghost use Rattle.jforms.specs.jwhole.Tallied.{tally_of};
+ghost use Rattle.jsemantics.specs.jmachine.Machine.{run};
+ghost use Rattle.jsemantics.specs.jrules.InspectingRules.{rules as inspecting};
+ghost use Rattle.jresolution.specs.jprogram.MemberResolution.{IsMain};
+ghost use Rattle.jforms.specs.jengine.RunTallies.{tally_of};
 
+use crate::jengine::count;
 use crate::jinspect::inspector::Inspector;
-use crate::jwhole::count;
 use jcheck::CheckedProgram;
-use jmodel::jmachine::Plan;
-use jrights::jdomain::Domains;
-use jrights::jtally::Tally;
-use jsafety::jyield::rules_laws;
+use jdomain::Domains;
+use joutput::jtally::Tally;
+use jsemantics::jmachine::Plan;
+use jsoundness_laws::library::rules_laws;
 use std::alloc::{AllocError, Global};
 
 /// Counts the run of a checked program by the rules of frames, as `run_inspect` writes it. Want of memory may come at any time.

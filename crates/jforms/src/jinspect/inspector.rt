@@ -1,15 +1,15 @@
 ghost use Rattle.std.specs.Prelude.{◌≡◌, ◌-◌, ◌<◌, [], IfOk, Some, length, slice_get};
 ghost use Rattle.std.specs.Option.{option_copied};
-ghost use Rattle.jrights.specs.jdomain.Domains.{has};
-ghost use Rattle.jrights.specs.jdomain.Stacks.{Privileged, walk};
-ghost use Rattle.jkept.specs.Entries.{AllBelow, Below};
-ghost use Rattle.jkept.specs.Things.{Keeps as Stays, given_at, stack_at, stack_of, things};
-ghost use Rattle.jforms.specs.jinspect.Inspects.{IsMarked, IsStack, newest_domain};
+ghost use Rattle.jdomain.specs.Domains.{has};
+ghost use Rattle.jdomain.specs.DomainStacks.{Privileged, walk};
+ghost use Rattle.jsnapshots.specs.SnapshotEntries.{AllBelow, Below};
+ghost use Rattle.jsnapshots.specs.SnapshotMeanings.{Keeps as Stays, given_at, stack_at, stack_of, things};
+ghost use Rattle.jforms.specs.jinspect.InspectingGuards.{IsMarked, IsStack, newest_domain};
 
-use jkept::{InspectMark, Kept};
-use jmodel::jguard::{Answer, Ask, Guard, OnSource};
+use jdomain::Domains;
+use jguard::{Answer, Ask, Guard, OnSource};
 use jperm::Permission;
-use jrights::jdomain::Domains;
+use jsnapshots::{InspectMark, Kept};
 use std::alloc::{AllocError, Global};
 use std::marker::Model;
 
@@ -22,7 +22,7 @@ pub struct Inspector<'d> {
 }
 
 impl<'d> Model for Inspector<'d> {
-    ghost use Rattle.jforms.specs.jinspect.Inspects.{Inspects};
+    ghost use Rattle.jforms.specs.jinspect.InspectingGuards.{Inspects};
 
     ghost Value = { Inspects };
 
@@ -123,10 +123,10 @@ impl<'d> Inspector<'d> {
 }
 
 impl<'d> Guard for Inspector<'d> {
-    ghost use Rattle.jrights.specs.jdomain.Domains.{has};
-    ghost use Rattle.jrights.specs.jdomain.Stacks.{Stack};
-    ghost use Rattle.jmodel.specs.jrules.Inspecting.{Carried, rules as inspecting};
-    ghost use Rattle.jforms.specs.jinspect.Inspects.{Becomes, entry_at, kept_at, unprivileged};
+    ghost use Rattle.jdomain.specs.Domains.{has};
+    ghost use Rattle.jdomain.specs.DomainStacks.{Stack};
+    ghost use Rattle.jsemantics.specs.jrules.InspectingRules.{Carried, rules as inspecting};
+    ghost use Rattle.jforms.specs.jinspect.InspectingGuards.{Becomes, entry_at, kept_at, unprivileged};
 
     type On = OnSource;
 
@@ -146,7 +146,7 @@ impl<'d> Guard for Inspector<'d> {
 
     ghost asked = { Becomes };
 
-    #[tactic(auto, unfolding(jmodel::specs::jrules::Inspecting::rules))]
+    #[tactic(auto, unfolding(jsemantics::specs::jrules::InspectingRules::rules))]
     fn mark_of(&self, domain: u32) -> InspectMark {
         InspectMark {
             domain,
@@ -154,7 +154,7 @@ impl<'d> Guard for Inspector<'d> {
         }
     }
 
-    #[tactic(auto, unfolding(jmodel::specs::jrules::Inspecting::rules))]
+    #[tactic(auto, unfolding(jsemantics::specs::jrules::InspectingRules::rules))]
     fn first(&mut self, alloc: Global) -> Result<Option<u64>, AllocError> {
         Ok(None)
     }

@@ -1,21 +1,21 @@
 ghost use Rattle.std.specs.Prelude.{◌≡◌, ◌≤◌, Err, IfOk, OnErr, OnOk};
-ghost use Rattle.jground.specs.jbase.Causes.{IsCut, Rose, appended};
-ghost use Rattle.jrights.specs.jdomain.Domains.{has};
+ghost use Rattle.jground.specs.jbase.FaultCauses.{IsCut, Rose, appended};
+ghost use Rattle.jdomain.specs.Domains.{has};
 ghost use Rattle.jlib.specs.declared.side.Side.TheVariants.{Source};
-ghost use Rattle.jrights.specs.declared.jtrace.fault.RunFault.TheVariants.{Sink as SinkFault};
-ghost use Rattle.jmodel.specs.jmachine.Machine.{run as run_of};
-ghost use Rattle.jmodel.specs.jmachine.Runs.{ending, run_text};
-ghost use Rattle.jmodel.specs.jrules.Inspecting.{rules as inspecting};
-ghost use Rattle.jprogram.specs.Members.{IsMain};
+ghost use Rattle.joutput.specs.declared.jtrace.fault.RunFault.TheVariants.{Sink as SinkFault};
+ghost use Rattle.jsemantics.specs.jmachine.Machine.{run as run_of};
+ghost use Rattle.jsemantics.specs.jmachine.RunTraces.{ending, run_text};
+ghost use Rattle.jsemantics.specs.jrules.InspectingRules.{rules as inspecting};
+ghost use Rattle.jresolution.specs.jprogram.MemberResolution.{IsMain};
 
+use crate::jengine::run;
 use crate::jinspect::inspector::Inspector;
-use crate::jwhole::run;
 use jcheck::CheckedProgram;
-use jmodel::jmachine::Plan;
-use jrights::jdomain::Domains;
-use jrights::jio::Sink;
-use jrights::jtrace::{End, RunFault};
-use jsafety::jyield::rules_laws;
+use jdomain::Domains;
+use joutput::jio::Sink;
+use joutput::jtrace::{End, RunFault};
+use jsemantics::jmachine::Plan;
+use jsoundness_laws::library::rules_laws;
 use std::alloc::Global;
 
 /// Runs a checked program of the source side by the rules of frames: each check walks the stack (class documentation of AccessController). It writes

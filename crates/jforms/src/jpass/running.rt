@@ -1,38 +1,37 @@
 ghost use Rattle.std.specs.Prelude.{◌≡◌, ◌≤◌, ℕ, Err, IfOk, OnErr, OnOk};
-ghost use Rattle.jground.specs.jbase.Causes.{IsCut, Rose, appended};
-ghost use Rattle.jrights.specs.jdomain.Domains.{has};
-ghost use Rattle.jrights.specs.declared.jtrace.fault.RunFault.TheVariants.{Sink as SinkFault};
-ghost use Rattle.jprogram.specs.Classes.{Program};
-ghost use Rattle.jmodel.specs.jmachine.Machine.{run as run_of};
-ghost use Rattle.jmodel.specs.jmachine.Runs.{ending, run_text};
-ghost use Rattle.jmodel.specs.jmachine.Steps.{step};
-ghost use Rattle.jmodel.specs.jrules.Inspecting.{rules as inspecting};
-ghost use Rattle.jmodel.specs.jrules.Plain.{rules as plain};
-ghost use Rattle.jprogram.specs.Members.{IsMain};
-ghost use Rattle.jforms.specs.jpass.Passing.{NeverStuck, inspected, passed};
-ghost use Rattle.jforms.specs.jpass.Running.{AfterSome, IsMoved, OnceEnded, Tells};
-ghost use Rattle.jmovedlaws.specs.jsmall.Small.{HasSmall};
+ghost use Rattle.jground.specs.jbase.FaultCauses.{IsCut, Rose, appended};
+ghost use Rattle.jdomain.specs.Domains.{has};
+ghost use Rattle.joutput.specs.declared.jtrace.fault.RunFault.TheVariants.{Sink as SinkFault};
+ghost use Rattle.jresolution.specs.jprogram.ProgramClasses.{Program};
+ghost use Rattle.jsemantics.specs.jmachine.Machine.{run as run_of};
+ghost use Rattle.jsemantics.specs.jmachine.RunTraces.{ending, run_text};
+ghost use Rattle.jsemantics.specs.jmachine.MachineSteps.{step};
+ghost use Rattle.jsemantics.specs.jrules.InspectingRules.{rules as inspecting};
+ghost use Rattle.jsemantics.specs.jrules.PlainRules.{rules as plain};
+ghost use Rattle.jresolution.specs.jprogram.MemberResolution.{IsMain};
+ghost use Rattle.jpass_laws.specs.PassSimulation.{NeverStuck, inspected, passed};
+ghost use Rattle.jforms.specs.jpass.PassRuns.{AfterSome, IsMoved, OnceEnded, Tells};
+ghost use Rattle.jmoved_laws.specs.contexts.SmallContexts.{HasSmall};
 
-use crate::jpass::laws::moved_laws;
-use crate::jpass::machines::{ByContexts, ByFrames};
 use crate::jplain::{is_sound, run_plain};
 use jcheck::PlainProgram;
-use jmodel::jmachine::Plan;
-use jmovedlaws::jsmall::small_law;
-use jrights::jdomain::Domains;
-use jrights::jio::Sink;
-use jrights::jtrace::{End, RunFault};
-use jsafety::jsafe::states_laws;
-use jsafety::jsound::runs_law;
-use jsafety::jyield::rules_laws;
+use jdomain::Domains;
+use jmoved_laws::contexts::small_law;
+use joutput::jio::Sink;
+use joutput::jtrace::{End, RunFault};
+use jpass_laws::{ByContexts, ByFrames, moved_laws};
+use jsemantics::jmachine::Plan;
+use jsoundness_laws::library::rules_laws;
+use jsoundness_laws::program::runs_law;
+use jsoundness_laws::progress::states_laws;
 use std::alloc::Global;
 
-/// Runs a well-typed program of the passing side by the rules of contexts, as [`run_plain`] does. Of each program that links, is well typed, breaks no
-/// limit and is moved to this one, it writes what the inspecting run has told after some k steps, and ends as that has: `simulated` says that k is
-/// at most the plan's number of steps, and that this is at most 8 k + 15 where the inspecting run goes on. `complete` says that nothing else
-/// is told: where the inspecting run has ended after n steps, 8 n + 8 are enough to tell it all. Nobody is handed that program.
-/// Neither run is ever stuck (`steps`, `unstuck`). `small`: each context that stands in a state of this run has domains of that program's classes
-/// alone, so that one without limits has no more items than these are.
+/// Runs a well-typed program of the passing side by the rules of contexts, as [`run_plain`] does. Of each program that links, is well typed,
+/// breaks no limit and is moved to this one, it writes what the inspecting run has told after some k steps, and ends as that has: `simulated`
+/// says that k is at most the plan's number of steps, and that this is at most 8 k + 15 where the inspecting run goes on. `complete` says that
+/// nothing else is told: where the inspecting run has ended after n steps, 8 n + 8 are enough to tell it all. Nobody is handed that program.
+/// Neither run is ever stuck (`steps`, `unstuck`). `small`: each context that stands in a state of this run has domains of that program's
+/// classes alone, so that one without limits has no more items than these are.
 pub fn run_pass<K: Sink>(
     alloc: Global,
     program: &PlainProgram,

@@ -1,17 +1,17 @@
 ghost use Rattle.std.specs.Prelude.{◌≡◌, IfOk};
-ghost use Rattle.jrights.specs.jdomain.Domains.{has};
-ghost use Rattle.jmodel.specs.jmachine.Machine.{run};
-ghost use Rattle.jmodel.specs.jrules.Plain.{rules as plain};
-ghost use Rattle.jprogram.specs.Members.{IsMain};
-ghost use Rattle.jforms.specs.jwhole.Tallied.{tally_of};
+ghost use Rattle.jdomain.specs.Domains.{has};
+ghost use Rattle.jsemantics.specs.jmachine.Machine.{run};
+ghost use Rattle.jsemantics.specs.jrules.PlainRules.{rules as plain};
+ghost use Rattle.jresolution.specs.jprogram.MemberResolution.{IsMain};
+ghost use Rattle.jforms.specs.jengine.RunTallies.{tally_of};
 
-use crate::jplain::plain::Plain;
-use crate::jwhole::count;
+use crate::jengine::count;
+use crate::jplain::plain_guard::PlainGuard;
 use jcheck::PlainProgram;
-use jmodel::jmachine::Plan;
-use jrights::jdomain::Domains;
-use jrights::jtally::Tally;
-use jsafety::jyield::rules_laws;
+use jdomain::Domains;
+use joutput::jtally::Tally;
+use jsemantics::jmachine::Plan;
+use jsoundness_laws::library::rules_laws;
 use std::alloc::{AllocError, Global};
 
 /// Counts the run of a program of the passing side by the rules of contexts, as `run_plain` writes it. Want of memory may come at any time.
@@ -25,6 +25,6 @@ pub fn count_plain(
     ensures { IfOk result (λ t. t ≡ tally_of (run (plain (has domains.now)) program.now plan.now plan.now.steps)) }
 {
     rules_laws();
-    let guard = Plain::open(alloc, domains)?;
+    let guard = PlainGuard::open(alloc, domains)?;
     count(alloc, program.linked(), plan, guard)
 }

@@ -1,20 +1,20 @@
 ghost use Rattle.std.specs.Prelude.{◌≡◌, ◌≤◌, Err, IfOk, OnErr, OnOk};
-ghost use Rattle.jground.specs.jbase.Causes.{IsCut, Rose, appended};
-ghost use Rattle.jrights.specs.jdomain.Domains.{has};
-ghost use Rattle.jrights.specs.declared.jtrace.fault.RunFault.TheVariants.{Sink as SinkFault};
-ghost use Rattle.jmodel.specs.jmachine.Machine.{run as run_of};
-ghost use Rattle.jmodel.specs.jmachine.Runs.{ending, run_text};
-ghost use Rattle.jmodel.specs.jrules.Plain.{rules as plain};
-ghost use Rattle.jprogram.specs.Members.{IsMain};
+ghost use Rattle.jground.specs.jbase.FaultCauses.{IsCut, Rose, appended};
+ghost use Rattle.jdomain.specs.Domains.{has};
+ghost use Rattle.joutput.specs.declared.jtrace.fault.RunFault.TheVariants.{Sink as SinkFault};
+ghost use Rattle.jsemantics.specs.jmachine.Machine.{run as run_of};
+ghost use Rattle.jsemantics.specs.jmachine.RunTraces.{ending, run_text};
+ghost use Rattle.jsemantics.specs.jrules.PlainRules.{rules as plain};
+ghost use Rattle.jresolution.specs.jprogram.MemberResolution.{IsMain};
 
-use crate::jplain::plain::Plain;
-use crate::jwhole::run;
+use crate::jengine::run;
+use crate::jplain::plain_guard::PlainGuard;
 use jcheck::PlainProgram;
-use jmodel::jmachine::Plan;
-use jrights::jdomain::Domains;
-use jrights::jio::Sink;
-use jrights::jtrace::{End, RunFault};
-use jsafety::jyield::rules_laws;
+use jdomain::Domains;
+use joutput::jio::Sink;
+use joutput::jtrace::{End, RunFault};
+use jsemantics::jmachine::Plan;
+use jsoundness_laws::library::rules_laws;
 use std::alloc::Global;
 
 /// Runs a program of the passing side that is well typed by the rules of contexts: each check is decided by the context that the call hands over,
@@ -38,6 +38,6 @@ pub fn run_plain<K: Sink>(
     ensures cause { result ≡ Err SinkFault → Rose (K.faults out.old) (K.faults out.new) }
 {
     rules_laws();
-    let guard = Plain::open(alloc, domains)?;
+    let guard = PlainGuard::open(alloc, domains)?;
     run(alloc, program.linked(), plan, guard, out)
 }

@@ -2,7 +2,7 @@
 use Rattle.std.proofs.Common.{◌≡◌, ℕ, ◌+◌, List, [], ◌++◌, take, drop, Option, Some, None, refl, sym, ap, ◌∙◌, append_assoc}
 use Rattle.std.proofs.lemmas.List.{take-append-drop, append-nil}
 use Rattle.std.proofs.Math.Seq.{take-add}
-use Rattle.jground.specs.jbase.Causes.{appended, IsCut}
+use Rattle.jground.specs.jbase.FaultCauses.{appended, IsCut}
 
 pub appended_nil : (old : Option (List ℕ)) → appended old [] ≡ old
 appended_nil None = refl

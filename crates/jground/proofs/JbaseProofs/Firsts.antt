@@ -1,7 +1,7 @@
 -- The laws of the first failing test.
 use Rattle.std.proofs.Common.{◌≡◌, ℕ, zero, suc, ◌+◌, ◌<◌, List, [], ◌∷◌, Option, Some, None, refl, sym, ap, ◌∙◌, arith}
 use Rattle.std.specs.Prelude.{slice_get}
-use Rattle.jground.specs.jbase.First.{or_else, first_along}
+use Rattle.jground.specs.jbase.FirstFaults.{or_else, first_along}
 
 pub none_of : {F : Type 0} (a b : Option F) → or_else a b ≡ None → (a ≡ None) × (b ≡ None)
 none_of (Some f) b e = cc

@@ -3,10 +3,10 @@ use Rattle.std.proofs.Common.{◌≡◌, ℕ, suc, ◌+◌, ◌≤◌, ◌<◌, 
 use Rattle.std.proofs.Math.Seq.{drop-cons}
 use Rattle.std.proofs.Math.ListN.{drop_of_length-le}
 use Rattle.std.proofs.lemmas.List.{append-nil}
-use Rattle.jground.specs.declared.jbase.stop.Stop.{Stop}
-use Rattle.jground.specs.declared.jbase.stop.Stop.TheVariants as stops
-use Rattle.jground.specs.jbase.Stops.{◌>>=◌, Fails}
-use Rattle.jground.specs.jbase.Each.{each, each_some, put_front}
+use Rattle.jground.specs.declared.jbase.fault_or_memory.FaultOrMemory.{FaultOrMemory}
+use Rattle.jground.specs.declared.jbase.fault_or_memory.FaultOrMemory.TheVariants as stops
+use Rattle.jground.specs.jbase.MemoryFailures.{◌>>=◌, Fails}
+use Rattle.jground.specs.jbase.ListMaps.{each, each_some, put_front}
 
 -- ---- the values of all items
 
@@ -24,7 +24,7 @@ each_more f done xs i x y total lt is h so_far =
     let one : behind done (each f (drop i xs)) ≡ behind (done ++ y ∷ []) (each f (drop (suc i) xs)) = rw (drop-cons xs i x, ← is, h) (regroup done y (each f (drop (suc i) xs))) in
     rw add-one (sym one ∙ so_far)
 
-pub each_fails : {A B F : Type 0} (f : A → Result B F) (done : List B) (xs : List A) (i : ℕ) (x : A) (stop : Stop F) (total : Result (List B) F) → i < length xs → x ≡ get_or xs i x → Fails stop (f x) → behind done (each f (drop i xs)) ≡ total → Fails stop total
+pub each_fails : {A B F : Type 0} (f : A → Result B F) (done : List B) (xs : List A) (i : ℕ) (x : A) (stop : FaultOrMemory F) (total : Result (List B) F) → i < length xs → x ≡ get_or xs i x → Fails stop (f x) → behind done (each f (drop i xs)) ≡ total → Fails stop total
 unfolding each
 each_fails f done xs i x stops.Memory total lt is h so_far = tt
 each_fails f done xs i x (stops.Fault d) total lt is h so_far =

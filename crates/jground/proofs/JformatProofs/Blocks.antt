@@ -5,13 +5,13 @@ use Rattle.std.specs.List.{flat_map, list_all}
 use Rattle.std.proofs.lemmas.Bool.{ltb-false, lt-ltb, le-ltb, eqb-true}
 use Rattle.std.proofs.lemmas.List.{take_at, drop_at, take-append-drop, length-append, length-take-le, append-nil, nil_from_length}
 use Rattle.std.proofs.lemmas.List.Concat.{flat_map-cons}
-use Rattle.jground.specs.jbase.Stops.{◌>>=◌}
+use Rattle.jground.specs.jbase.MemoryFailures.{◌>>=◌}
 use Rattle.jground.specs.declared.jformat.error.Fault.{Fault}
 use Rattle.jground.specs.jformat.Format.{IsBytes, Answer, Format, fault, run_at}
 use Rattle.jground.specs.ProofNames.{fault_at}
-use Rattle.jground.specs.jformat.Bodies.{Body, all, whole, outward, inner_at, block, sized, times_at, counted, counted_at, many, many_at}
-use Rattle.jground.proofs.JformatProofs.Steps.{IsBytes-drop, IsBytes-take, IsBytes-rest, bind_ok, bind_err, guard_ok, guard_err, guard_ended, guard_cut, ok_is, both, first_true, second_true, fault_within}
-use Rattle.jground.proofs.JformatProofs.Laws.{IsReading, IsFormat, HasBytes, bind_reading}
+use Rattle.jground.specs.jformat.BodyFormats.{Body, all, whole, outward, inner_at, block, sized, times_at, counted, counted_at, many, many_at}
+use Rattle.jground.proofs.JformatProofs.ReadingSteps.{IsBytes-drop, IsBytes-take, IsBytes-rest, bind_ok, bind_err, guard_ok, guard_err, guard_ended, guard_cut, ok_is, both, first_true, second_true, fault_within}
+use Rattle.jground.proofs.JformatProofs.FormatLaws.{IsReading, IsFormat, HasBytes, bind_reading}
 
 pub record IsBody {K A : Type 0} (f : Body K A) : Type 0 where
   pub takes : (bytes : List ℕ) (a : A) → IsBytes bytes → f.read bytes ≡ Ok a → IsTrue (f.fits a) × (bytes ≡ f.spell a)

@@ -3,13 +3,13 @@ use Rattle.std.proofs.Common.{◌≡◌, ℕ, suc, ◌≤◌, Bool, true, false,
 use Rattle.std.specs.Prelude.{IsTrue}
 use Rattle.std.specs.List.{flat_map, list_all}
 use Rattle.std.proofs.lemmas.List.Concat.{flat_map-cons}
-use Rattle.jground.specs.jbase.Stops.{◌>>=◌}
+use Rattle.jground.specs.jbase.MemoryFailures.{◌>>=◌}
 use Rattle.jground.specs.declared.jformat.error.Fault.{Fault}
 use Rattle.jground.specs.jformat.Format.{Answer, Format, ◌·◌, ◌▹◌, via, as_case, part_fits, such, passed, is_good, part_spell}
-use Rattle.jground.specs.jformat.Bodies.{Body, sized, block, counted, times_at}
-use Rattle.jground.specs.jformat.Passes.{passes, ahead}
-use Rattle.jground.proofs.JformatProofs.Steps.{bind_ok, bind_err, ok_is, both, first_true, second_true, passed_none, passed_err}
-use Rattle.jground.proofs.JformatProofs.Laws.{IsFormat}
+use Rattle.jground.specs.jformat.BodyFormats.{Body, sized, block, counted, times_at}
+use Rattle.jground.specs.jformat.RepeatedReads.{passes, ahead}
+use Rattle.jground.proofs.JformatProofs.ReadingSteps.{bind_ok, bind_err, ok_is, both, first_true, second_true, passed_none, passed_err}
+use Rattle.jground.proofs.JformatProofs.FormatLaws.{IsFormat}
 use Rattle.jground.proofs.JformatProofs.Blocks.{IsBody, run_again}
 
 -- The first pass finds in each text that a later one spells what the later one was given.

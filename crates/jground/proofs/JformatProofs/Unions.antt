@@ -4,10 +4,10 @@ use Rattle.std.specs.Prelude.{IsTrue}
 use Rattle.std.proofs.lemmas.Bool.{cases_Bool, lt-ltb, eqb-true}
 use Rattle.jground.specs.declared.jformat.error.Fault.{Fault}
 use Rattle.jground.specs.jformat.Format.{IsBytes, Answer, Format}
-use Rattle.jground.specs.jformat.Tags.{is_in, apart, rows, rows_at, row_read}
+use Rattle.jground.specs.jformat.TagTables.{is_in, apart, rows, rows_at, row_read}
 use Rattle.jground.specs.ProofNames.{row_spell, row_fits}
-use Rattle.jground.proofs.JformatProofs.Steps.{IsBytes-rest, bind_ok, bind_err, ok_is, both, first_true, second_true, fault_within}
-use Rattle.jground.proofs.JformatProofs.Laws.{Takes, IsReading, IsFormat, HasBytes, ok_reading}
+use Rattle.jground.proofs.JformatProofs.ReadingSteps.{IsBytes-rest, bind_ok, bind_err, ok_is, both, first_true, second_true, fault_within}
+use Rattle.jground.proofs.JformatProofs.FormatLaws.{Takes, IsReading, IsFormat, HasBytes, ok_reading}
 
 pub is_in_append : (t : ℕ) (us vs : List ℕ) → is_in t (us ++ vs) ≡ cond (is_in t us) true (is_in t vs)
 is_in_append t [] vs = refl

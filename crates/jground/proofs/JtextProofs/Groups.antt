@@ -6,8 +6,8 @@ use Rattle.std.proofs.lemmas.Bool.{cases_Bool, ltb-true, ltb-false, leb-true, le
 use Rattle.jground.specs.declared.jformat.error.Fault.{Fault}
 use Rattle.jground.specs.jformat.Format.{IsBytes, fault}
 use Rattle.jground.specs.ProofNames.{fault_at}
-use Rattle.jground.proofs.JformatProofs.Steps.{IsBytes-rest, ok_is, first_true, second_true, both, fault_within}
-use Rattle.jground.proofs.JformatProofs.Laws.{IsFormat}
+use Rattle.jground.proofs.JformatProofs.ReadingSteps.{IsBytes-rest, ok_is, first_true, second_true, both, fault_within}
+use Rattle.jground.proofs.JformatProofs.FormatLaws.{IsFormat}
 use Rattle.jground.proofs.JformatProofs.Blocks.{IsBody, many_law}
 use Rattle.jground.specs.jtext.Modified.{group, goes_on, two, three, two_at, three_at, unit_at, unit, text}
 

@@ -3,7 +3,7 @@ use Rattle.std.specs.Prelude.{ℕ, ℤ, ◌<◌, ◌^◌, Bool, true, false, ◌
 use Rattle.std.specs.Str.{bytes_eq}
 use Rattle.std.specs.Int.{Width, byte_len, from_be_bytes, to_be_bytes, cast_signed, cast_unsigned}
 use Rattle.std.specs.Ordering.{int_eq}
-use Rattle.jground.specs.jbase.Stops.{◌>>=◌}
+use Rattle.jground.specs.jbase.MemoryFailures.{◌>>=◌}
 use Rattle.jground.specs.declared.jformat.error.Fault.{Fault}
 
 abbrev pub fault : {K A : Type 0} → K → List ℕ → Result A (Fault K)

@@ -1,7 +1,7 @@
 -- Modified UTF-8 (JVMS 4.4.7): a text of UTF-16 units, one group of bytes for each unit.
 use Rattle.std.specs.Prelude.{ℕ, ◌+◌, ◌-◌, ◌*◌, ◌/◌, ◌%◌, Bool, ◌&&◌, ◌||◌, List, [], ◌∷◌, nat_lt, nat_le, ◌==◌, if◌then◌else◌, Ok}
 use Rattle.jground.specs.jformat.Format.{Answer, Format, fault}
-use Rattle.jground.specs.jformat.Bodies.{Body, many}
+use Rattle.jground.specs.jformat.BodyFormats.{Body, many}
 
 -- The group of a unit: the shortest of one, two or three bytes that holds it, and two bytes for unit 0.
 abbrev pub group : ℕ → List ℕ

@@ -1,5 +1,5 @@
 ghost use Rattle.std.specs.Prelude.{◌≡◌, ◌<◌, ◌++◌, ◌+◌, ℕ, List, Option, Some, None, slice_get};
-ghost use Rattle.jground.specs.jbase.First.{first_along, first_some, or_else};
+ghost use Rattle.jground.specs.jbase.FirstFaults.{first_along, first_some, or_else};
 
 /// The laws of the first failing test: none is found exactly where no test fails, and what is found is the fault of the
 /// first item that has one.

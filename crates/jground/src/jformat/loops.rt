@@ -1,9 +1,9 @@
 ghost use Rattle.std.specs.Prelude.{◌≡◌, ℕ, List, Result, length};
 ghost use Rattle.std.specs.Int.{w16};
-ghost use Rattle.jground.specs.jbase.Stops.{Gives};
+ghost use Rattle.jground.specs.jbase.MemoryFailures.{Gives};
 ghost use Rattle.jground.specs.declared.jformat.error.Fault.{Fault};
 ghost use Rattle.jground.specs.jformat.Format.{number_at};
-ghost use Rattle.jground.specs.jformat.Bodies.{counted_at, many_at, times_at};
+ghost use Rattle.jground.specs.jformat.BodyFormats.{counted_at, many_at, times_at};
 
 use crate::jbase::Seq;
 use crate::jformat::error::ReadError;

@@ -1,12 +1,12 @@
 ghost use Rattle.std.specs.Prelude.{◌≡◌, ℕ, ◌≤◌, List, Result, Err, length};
 ghost use Rattle.std.specs.Int.{w32};
-ghost use Rattle.jground.specs.jbase.Stops.{Gives};
+ghost use Rattle.jground.specs.jbase.MemoryFailures.{Gives};
 ghost use Rattle.jground.specs.declared.jformat.error.Fault.{Fault};
 ghost use Rattle.jground.specs.jformat.Format.{number_at};
-ghost use Rattle.jground.specs.jformat.Bodies.{inner_at};
+ghost use Rattle.jground.specs.jformat.BodyFormats.{inner_at};
 ghost use Rattle.jground.specs.ProofNames.{block_at};
 
-use crate::jbase::Stop;
+use crate::jbase::FaultOrMemory;
 use crate::jformat::error::{Fault, ReadError};
 use crate::jformat::numbers::u32_of;
 use crate::jformat::parts::run_of;
@@ -43,8 +43,8 @@ pub fn inner_of<'a, R: BodyReader>(
     let (text, rest) = run_of(cut, count, bytes)?;
     match reader.read(alloc, text) {
         Ok(item) => Ok((item, rest)),
-        Err(Stop::Memory) => Err(Stop::Memory),
-        Err(Stop::Fault(found)) => Err(Stop::Fault(Fault {
+        Err(FaultOrMemory::Memory) => Err(FaultOrMemory::Memory),
+        Err(FaultOrMemory::Fault(found)) => Err(FaultOrMemory::Fault(Fault {
             left: found.left + rest.len(),
             kind: found.kind,
         })),

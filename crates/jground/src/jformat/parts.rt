@@ -1,20 +1,20 @@
 ghost use Rattle.std.specs.Prelude.{◌≡◌};
 ghost use Rattle.std.specs.Int.{w16};
-ghost use Rattle.jground.specs.jbase.Stops.{Gives};
+ghost use Rattle.jground.specs.jbase.MemoryFailures.{Gives};
 ghost use Rattle.jground.specs.jformat.Format.{number, run_at, words_at};
 ghost use Rattle.jground.specs.ProofNames.{fault_at};
-ghost use Rattle.jground.specs.jformat.Bodies.{sized};
+ghost use Rattle.jground.specs.jformat.BodyFormats.{sized};
 
-use crate::jbase::{Seq, Stop};
+use crate::jbase::{FaultOrMemory, Seq};
 use crate::jformat::error::{Fault, ReadError};
 use crate::jformat::numbers::u16_of;
 use std::alloc::Global;
 
 /// A fault where these bytes are left.
 pub fn fault<K>(kind: K, bytes: &[u8]) -> ReadError<K>
-    ensures { result ≡ Stop.Fault (fault_at kind bytes.now) }
+    ensures { result ≡ FaultOrMemory.Fault (fault_at kind bytes.now) }
 {
-    Stop::Fault(Fault {
+    FaultOrMemory::Fault(Fault {
         left: bytes.len(),
         kind,
     })

@@ -1,7 +1,7 @@
 ghost use Rattle.std.specs.Prelude.{◌≡◌, ℕ, List, Result};
-ghost use Rattle.jground.specs.jbase.Stops.{Gives};
+ghost use Rattle.jground.specs.jbase.MemoryFailures.{Gives};
 ghost use Rattle.jground.specs.declared.jformat.error.Fault.{Fault};
-ghost use Rattle.jground.specs.jformat.States.{times_from};
+ghost use Rattle.jground.specs.jformat.StatefulFormats.{times_from};
 
 use crate::jbase::Seq;
 use crate::jformat::error::ReadError;

@@ -2,8 +2,8 @@ ghost use Rattle.std.specs.Prelude.{◌≡◌, ◌++◌, ◌∷◌, [], ℕ, Boo
 ghost use Rattle.std.specs.List.{flat_map, list_all};
 ghost use Rattle.std.specs.Int.{w8, w16, w32, w64, to_be_bytes, cast_unsigned};
 ghost use Rattle.jground.specs.jformat.Format.{number};
-ghost use Rattle.jground.specs.jformat.Bodies.{sized};
-ghost use Rattle.jground.specs.jformat.States.{fits_from, spell_from};
+ghost use Rattle.jground.specs.jformat.BodyFormats.{sized};
+ghost use Rattle.jground.specs.jformat.StatefulFormats.{fits_from, spell_from};
 
 use crate::jbase::Seq;
 use std::alloc::{AllocError, Global};

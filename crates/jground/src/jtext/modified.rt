@@ -1,17 +1,17 @@
 ghost use Rattle.std.specs.Prelude.{◌≡◌, ◌≤◌, ◌<◌, ◌+◌, ◌/◌, ◌%◌, ◌++◌, ◌∷◌, [], ◌&&◌, true, IfOk, OnOk, IsTrue, List, ℕ, Ok, Err, length, nat_le, nat_lt};
 ghost use Rattle.std.specs.List.{flat_map, list_all};
-ghost use Rattle.jground.specs.jbase.Stops.{Gives};
-ghost use Rattle.jground.specs.jformat.Places.{GivesAt};
+ghost use Rattle.jground.specs.jbase.MemoryFailures.{Gives};
+ghost use Rattle.jground.specs.jformat.FaultOffsets.{GivesAt};
 ghost use Rattle.jground.specs.jtext.Modified.{group, goes_on, text, three, three_at, two, two_at, unit, unit_at};
 
-use crate::jbase::{Seq, Stop};
+use crate::jbase::{FaultOrMemory, Seq};
 use crate::jformat::{At, ReadError, Reader, Writer, fault, many_of, put_each, put_u8, stop_at};
 use crate::jtext::units::Units;
 use std::alloc::{AllocError, Global};
 
 /// Why bytes gave no text: no unit's group stands at the offset `at`, where the groups before it end, or no memory was left,
 /// which may come at any time, and comes where the offset has more than 32 bits.
-pub type TextError = Stop<At<()>>;
+pub type TextError = FaultOrMemory<At<()>>;
 
 fn goes_on(b: u8) -> bool
     ensures { result ≡ goes_on b }

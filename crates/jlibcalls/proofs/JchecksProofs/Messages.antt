@@ -4,8 +4,8 @@ use Rattle.std.proofs.lemmas.List.{append-nil, drop_all}
 use Rattle.std.specs.List.{flat_map}
 use Rattle.std.specs.Prelude.{codes}
 use Rattle.jperm.specs.declared.permission.Permission.{Permission}
-use Rattle.jperm.specs.Texts.{parts, text_of}
-use Rattle.jmodel.specs.jmachine.Security.{denial_message}
+use Rattle.jperm.specs.PermissionTexts.{parts, text_of}
+use Rattle.jsemantics.specs.jmachine.Security.{denial_message}
 
 abbrev joined : List (List ℕ) → List ℕ
 joined pieces = flat_map (λ (piece : List ℕ). piece) pieces

@@ -11,12 +11,12 @@ use Rattle.std.specs.Ordering.{nat_cmp}
 use Rattle.std.specs.Str.{bytes_eq}
 use Rattle.std.proofs.lemmas.List.{map-append}
 use Rattle.std.proofs.lemmas.Slice.Eq.{bytes_eq-Decides}
-use Rattle.jprogram.proofs.Table.{noted}
-use Rattle.jprogram.specs.Classes.{Program}
-use Rattle.jprogram.specs.Names.{place_at}
-use Rattle.jmodel.specs.jmachine.Store.{constant_at}
+use Rattle.jresolution.proofs.JprogramProofs.NameTables.{noted}
+use Rattle.jresolution.specs.jprogram.ProgramClasses.{Program}
+use Rattle.jresolution.specs.jprogram.NameTable.{place_at}
+use Rattle.jsemantics.specs.jmachine.Store.{constant_at}
 use Rattle.jlibcalls.specs.declared.jconstants.table.MadeText.{MadeText}
-use Rattle.jlibcalls.specs.jconstants.Made.{AreKnown, AreObjects, constant_of, constants_of, number_at, units_at}
+use Rattle.jlibcalls.specs.jconstants.StringConstants.{AreKnown, AreObjects, constant_of, constants_of, number_at, units_at}
 
 -- ---- none
 

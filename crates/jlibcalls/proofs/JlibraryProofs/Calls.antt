@@ -2,35 +2,35 @@
 use Rattle.std.proofs.Common.{◌≡◌, ℕ, Bool, List, [], Option, None, refl}
 use Rattle.std.specs.Option.{option_to_list}
 use Rattle.std.specs.Prelude.{⊤, Result, Ok, Err, IfOk}
-use Rattle.jground.specs.declared.jops.value.Value.{Value}
+use Rattle.jvalues.specs.declared.jops.value.Value.{Value}
 use Rattle.jperm.specs.declared.permission.Permission as perms
-use Rattle.jheap.specs.Heaps.{Heaped}
+use Rattle.jmemory.specs.jheap.Heaps.{Heaped}
 use Rattle.jlib.specs.declared.calls.BuilderCall.{BuilderCall}
 use Rattle.jlib.specs.declared.calls.LibCall.{LibCall}
 use Rattle.jlib.specs.declared.calls.LibCall.TheVariants as calls
 use Rattle.jlib.specs.declared.calls.PermissionInit.{PermissionInit}
-use Rattle.jlib.specs.declared.calls.Piece.{Piece}
+use Rattle.jlib.specs.declared.calls.PrintedType.{PrintedType}
 use Rattle.jlib.specs.declared.calls.StringCall.{StringCall}
 use Rattle.jlib.specs.declared.calls.ThrownInit.{ThrownInit}
 use Rattle.jlib.specs.declared.calls.ThrownInit.TheVariants as given
 use Rattle.jlib.specs.declared.classes.Thrown.{Thrown as ThrownClass}
-use Rattle.jprogram.specs.declared.member.Member.{Member}
-use Rattle.jmodel.specs.jmachine.Acts.{Row}
-use Rattle.jmodel.specs.jmachine.Doing.{run}
-use Rattle.jmodel.specs.jmachine.Library.{library}
-use Rattle.jmodel.specs.ProofNames.{object_init}
-use Rattle.jmodel.specs.jmachine.Permissions as permissions
-use Rattle.jmodel.specs.jmachine.Security.{Rules}
-use Rattle.jmodel.specs.jmachine.Sites.{Site}
-use Rattle.jmodel.specs.jmachine.Store.{Store}
-use Rattle.jmodel.specs.jmachine.Texts.{builder, print, print_end, string}
-use Rattle.jmodel.specs.jmachine.Throwables as throwables
-use Rattle.jmodel.specs.declared.jstate.shapes.Shapes.{Shapes}
+use Rattle.jresolution.specs.declared.jprogram.member.Member.{Member}
+use Rattle.jsemantics.specs.jmachine.MachineStates.{Row}
+use Rattle.jsemantics.specs.jmachine.InstructionActions.{run}
+use Rattle.jsemantics.specs.jmachine.LibraryCalls.{library}
+use Rattle.jsemantics.specs.ProofNames.{object_init}
+use Rattle.jsemantics.specs.jmachine.PermissionCalls as permissions
+use Rattle.jsemantics.specs.jmachine.Security.{Rules}
+use Rattle.jsemantics.specs.jmachine.InstructionSites.{Site}
+use Rattle.jsemantics.specs.jmachine.Store.{Store}
+use Rattle.jsemantics.specs.jmachine.TextCalls.{builder, print, print_end, string}
+use Rattle.jsemantics.specs.jmachine.Throwables as throwables
+use Rattle.jruntime.specs.declared.jstate.shapes.Shapes.{Shapes}
 use Rattle.jrows.specs.declared.jtexts.ran.Ran.{Ran}
 use Rattle.jrows.specs.declared.jtexts.ran.Ran.TheVariants as ran
 use Rattle.jlibcalls.specs.declared.jlibrary.came.Came.{Came}
-use Rattle.jlibcalls.specs.jlibrary.Ran.{CallDoes, Constructs, Does, IsAskFree}
-use Rattle.jlibcalls.proofs.JlibraryProofs.Keeping.{IsRow, as_call}
+use Rattle.jlibcalls.specs.jlibrary.LibraryOutcomes.{CallDoes, Constructs, Does, IsAskFree}
+use Rattle.jlibcalls.proofs.JlibraryProofs.PermissionlessCalls.{IsRow, as_call}
 
 -- ---- which row is a call's
 
@@ -63,7 +63,7 @@ module _ (E : Type 0) (cwd : List ℕ) (thread : ℕ) (values : List (Value ℕ)
   unfolding library
   is_line at s dir number = rw number refl
 
-  pub is_print : (piece : Piece) → IsRow E cwd thread (calls.Print piece) values (λ s. print s thread piece values)
+  pub is_print : (piece : PrintedType) → IsRow E cwd thread (calls.Print piece) values (λ s. print s thread piece values)
   unfolding library
   is_print piece at s dir number = rw number refl
 

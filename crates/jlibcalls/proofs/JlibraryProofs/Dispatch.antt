@@ -2,23 +2,23 @@
 use Rattle.std.proofs.Common.{◌≡◌, ℕ, List, [], ◌∷◌, Option, Some, None, refl, subst, sym}
 use Rattle.std.specs.Option.{option_to_list}
 use Rattle.std.specs.Prelude.{Result, Ok, Err, IfOk}
-use Rattle.jground.specs.declared.jops.value.Value.{Value}
-use Rattle.jheap.specs.Heaps.{Heaped}
-use Rattle.jrights.specs.declared.jtrace.event.Event.{Event}
-use Rattle.jprogram.specs.Classes.{Program}
-use Rattle.jlib.specs.declared.calls.Piece.{Piece}
-use Rattle.jmodel.specs.jmachine.Acts.{Row}
-use Rattle.jmodel.specs.jmachine.Calls.{receiver}
-use Rattle.jmodel.specs.jmachine.Store.{Store}
-use Rattle.jmodel.specs.jmachine.Texts.{print}
-use Rattle.jmodel.specs.declared.jstate.shapes.Shapes.{Shapes}
-use Rattle.jmodel.specs.jstate.Seen.{Things, store_by}
-use Rattle.jrows.specs.jtexts.Printed.{Prints}
-use Rattle.jrows.specs.jtexts.Rans.{Comes, leaves}
+use Rattle.jvalues.specs.declared.jops.value.Value.{Value}
+use Rattle.jmemory.specs.jheap.Heaps.{Heaped}
+use Rattle.joutput.specs.declared.jtrace.event.Event.{Event}
+use Rattle.jresolution.specs.jprogram.ProgramClasses.{Program}
+use Rattle.jlib.specs.declared.calls.PrintedType.{PrintedType}
+use Rattle.jsemantics.specs.jmachine.MachineStates.{Row}
+use Rattle.jsemantics.specs.jmachine.CallTargets.{receiver}
+use Rattle.jsemantics.specs.jmachine.Store.{Store}
+use Rattle.jsemantics.specs.jmachine.TextCalls.{print}
+use Rattle.jruntime.specs.declared.jstate.shapes.Shapes.{Shapes}
+use Rattle.jruntime.specs.jstate.HeapMeanings.{Things, store_by}
+use Rattle.jrows.specs.jtexts.PrintEvents.{Prints}
+use Rattle.jrows.specs.jtexts.TextCallOutcomes.{Comes, leaves}
 use Rattle.jrows.specs.declared.jtexts.ran.Ran.{Ran}
 use Rattle.jrows.specs.declared.jtexts.ran.Ran.TheVariants as ran
-use Rattle.jlibcalls.specs.jlibrary.Ran.{Does, came_by}
-use Rattle.jlibcalls.specs.jlibrary.Values.{one_in, two_in}
+use Rattle.jlibcalls.specs.jlibrary.LibraryOutcomes.{Does, came_by}
+use Rattle.jlibcalls.specs.jlibrary.CallOperands.{one_in, two_in}
 use Rattle.jlibcalls.proofs.JlibraryProofs.Operands.{one_is, two_is}
 
 -- as the calls of the library say it
@@ -67,7 +67,7 @@ pub prints : {E : Type 0} (thread : ℕ) (text : Option (List ℕ)) (s : Store �
 prints thread None s row did = did
 prints thread (Some text) s row did = did
 
-pub print_does : (E : Type 0) (thread : ℕ) (piece : Piece) (values : List (Value ℕ)) (v stream : Value ℕ) → Some (v, stream) ≡ two_in values → (text : Option (List ℕ))
+pub print_does : (E : Type 0) (thread : ℕ) (piece : PrintedType) (values : List (Value ℕ)) (v stream : Value ℕ) → Some (v, stream) ≡ two_in values → (text : Option (List ℕ))
     (shapes : Shapes) (h : Heaped)
     → ((p : Program) (shapes : Shapes) (things : Things) (constants : List (List ℕ × ℕ)) (thread : ℕ) (stream : Value ℕ) → let s = store_by p shapes things constants h in
     Prints {E = E} s (print s thread piece (v ∷ stream ∷ [])) thread text)

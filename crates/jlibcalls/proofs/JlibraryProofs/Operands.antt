@@ -1,8 +1,8 @@
 -- The operands of calls.
 use Rattle.std.proofs.Common.{◌≡◌, ◌≤◌, ℕ, zero, suc, false, List, [], ◌∷◌, length, Some, None, refl, sym, ap, arith}
 use Rattle.std.specs.Prelude.{nat_eq, take}
-use Rattle.jground.specs.declared.jops.value.Value.{Value}
-use Rattle.jlibcalls.specs.jlibrary.Values.{one_in, three_in, two_in}
+use Rattle.jvalues.specs.declared.jops.value.Value.{Value}
+use Rattle.jlibcalls.specs.jlibrary.CallOperands.{one_in, three_in, two_in}
 
 -- ---- other counts
 

@@ -1,15 +1,15 @@
 -- What a constructor is given.
 use Rattle.std.proofs.Common.{◌≡◌, ◌∙◌, ℕ, zero, suc, ◌+◌, ◌≤◌, ◌<◌, List, [], ◌∷◌, ◌++◌, length, take, Option, Some, None, refl, sym, ap, ap₂, arith}
 use Rattle.std.specs.Prelude.{slice_get}
-use Rattle.jheap.specs.Heaps.{Heaped}
+use Rattle.jmemory.specs.jheap.Heaps.{Heaped}
 use Rattle.jlib.specs.declared.side.Side.TheVariants.{Passing, Source}
-use Rattle.jground.specs.declared.jops.value.Value.{Value}
-use Rattle.jground.specs.declared.jops.value.Value.TheVariants.{Ref, Ctx}
-use Rattle.jmodel.specs.jmachine.Security.{handed}
-use Rattle.jmodel.specs.jstate.Framed.{Framed}
+use Rattle.jvalues.specs.declared.jops.value.Value.{Value}
+use Rattle.jvalues.specs.declared.jops.value.Value.TheVariants.{Ref, Ctx}
+use Rattle.jsemantics.specs.jmachine.Security.{handed}
+use Rattle.jruntime.specs.jstate.FrameLists.{Framed}
 use Rattle.jlibcalls.specs.declared.jthreading.making.Begun.{Begun}
-use Rattle.jlibcalls.specs.jthreading.Making.{IsBegun, IsGiven, IsHanded, IsNotGiven, begun_values}
-use Rattle.jlibcalls.proofs.JthreadingProofs.Rows.{taken_many}
+use Rattle.jlibcalls.specs.jthreading.ThreadConstructors.{IsBegun, IsGiven, IsHanded, IsNotGiven, begun_values}
+use Rattle.jlibcalls.proofs.JthreadingProofs.ThreadOutcomes.{taken_many}
 
 -- ---- operands
 

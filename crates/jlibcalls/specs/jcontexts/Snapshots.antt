@@ -1,21 +1,21 @@
 -- What a step comes to that takes a snapshot of what is kept (class documentation of AccessController: getContext).
 use Rattle.std.specs.Prelude.{◌≡◌, ◌+◌, ℕ, Bool, true, false, List, [], length, take, Option, Some}
-use Rattle.jground.specs.declared.jops.value.Value.{Value}
-use Rattle.jheap.specs.Heaps.{Heaped}
-use Rattle.jrights.specs.declared.jtrace.event.End.TheVariants.{HeapFull}
-use Rattle.jprogram.specs.Classes.{Program}
-use Rattle.jmodel.specs.declared.jmachine.plan.Plan.{Plan}
-use Rattle.jmodel.specs.jmachine.Acts.{Outcome, Over, Row, State, two}
-use Rattle.jmodel.specs.jmachine.Asking.{context_made}
-use Rattle.jmodel.specs.jmachine.Objects.{Context}
-use Rattle.jmodel.specs.jmachine.Security.{Rules}
-use Rattle.jmodel.specs.jmachine.Steps.{went}
-use Rattle.jmodel.specs.jmachine.Store.{Store, paid, with_made}
-use Rattle.jmodel.specs.jstate.Framed.{Framed, all}
-use Rattle.jmodel.specs.declared.jstate.shapes.Shapes.{Shapes}
-use Rattle.jmodel.specs.jstate.Seen.{Things, place_in, store_by}
-use Rattle.jrows.specs.jcalls.Calling.{stepped}
-use Rattle.jlibcalls.specs.jcontexts.Kept.{AreKept, with_kept}
+use Rattle.jvalues.specs.declared.jops.value.Value.{Value}
+use Rattle.jmemory.specs.jheap.Heaps.{Heaped}
+use Rattle.joutput.specs.declared.jtrace.event.End.TheVariants.{HeapFull}
+use Rattle.jresolution.specs.jprogram.ProgramClasses.{Program}
+use Rattle.jsemantics.specs.declared.jmachine.plan.Plan.{Plan}
+use Rattle.jsemantics.specs.jmachine.MachineStates.{Outcome, Over, Row, State, two}
+use Rattle.jsemantics.specs.jmachine.AccessCallRows.{context_made}
+use Rattle.jsemantics.specs.jmachine.HeapObjects.{Context}
+use Rattle.jsemantics.specs.jmachine.Security.{Rules}
+use Rattle.jsemantics.specs.jmachine.MachineSteps.{went}
+use Rattle.jsemantics.specs.jmachine.Store.{Store, paid, with_made}
+use Rattle.jruntime.specs.jstate.FrameLists.{Framed, all}
+use Rattle.jruntime.specs.declared.jstate.shapes.Shapes.{Shapes}
+use Rattle.jruntime.specs.jstate.HeapMeanings.{Things, place_in, store_by}
+use Rattle.jrows.specs.jcalls.MethodCalls.{stepped}
+use Rattle.jlibcalls.specs.jcontexts.KeptContexts.{AreKept, with_kept}
 
 -- The thread goes on with these frames, or the cells for the context aren't there, and the run is over.
 abbrev pub SnappedAs : {E : Type 0} → Rules ℕ E → Program → Plan → State ℕ E → Bool → Framed E → Store ℕ → Outcome (State ℕ E) → Type 0

@@ -1,16 +1,16 @@
 ghost use Rattle.std.specs.Prelude.{◌≡◌, ℕ, List, option_map};
-ghost use Rattle.jheap.specs.Heaps;
-ghost use Rattle.jground.specs.declared.jops.value.Value.TheVariants as values;
-ghost use Rattle.jprogram.specs.Classes.{Program};
-ghost use Rattle.jmodel.specs.declared.jstate.shapes.Shapes.{Shapes};
-ghost use Rattle.jmodel.specs.jstate.Seen.{Things, place_in, store_by};
-ghost use Rattle.jlibcalls.specs.jchecks.Asks.{Asks, number_held};
+ghost use Rattle.jmemory.specs.jheap.Heaps;
+ghost use Rattle.jvalues.specs.declared.jops.value.Value.TheVariants as values;
+ghost use Rattle.jresolution.specs.jprogram.ProgramClasses.{Program};
+ghost use Rattle.jruntime.specs.declared.jstate.shapes.Shapes.{Shapes};
+ghost use Rattle.jruntime.specs.jstate.HeapMeanings.{Things, place_in, store_by};
+ghost use Rattle.jlibcalls.specs.jchecks.PermissionQueries.{Asks, number_held};
 
-use jground::jops::Value;
-use jheap::{Heap, Kind};
-use jmodel::jstate::heap_laws;
+use jmemory::jheap::{Heap, Kind};
 use jperm::Permission;
 use jrows::jcalls::{Needs, first_cell, needs_of};
+use jruntime::jstate::heap_laws;
+use jvalues::jops::Value;
 
 /// What a check of a permission asks.
 #[derive(Clone, Copy)]

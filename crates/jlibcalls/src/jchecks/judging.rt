@@ -1,23 +1,23 @@
 ghost use Rattle.std.specs.Prelude.{◌≡◌, ◌≤◌, ◌<◌, ◌+◌, ◌^◌, [], IfOk, OnOk, codes, drop, length};
-ghost use Rattle.jrights.specs.declared.jdomain.verdict.Verdict.TheVariants as verdicts;
-ghost use Rattle.jmodel.specs.jmachine.Frames.{onward};
-ghost use Rattle.jmodel.specs.jmachine.Security.{denial_message};
+ghost use Rattle.jdomain.specs.declared.verdict.Verdict.TheVariants as verdicts;
+ghost use Rattle.jsemantics.specs.jmachine.FrameOperations.{onward};
+ghost use Rattle.jsemantics.specs.jmachine.Security.{denial_message};
 ghost use Rattle.jlib.specs.declared.classes.LibClass.TheVariants as lib;
-ghost use Rattle.jmodel.specs.jstate.Celled.{StayCelled};
-ghost use Rattle.jmodel.specs.jstate.Framed.{all, holding, with_newest};
-ghost use Rattle.jmodel.specs.jstate.Seen.{AreBuilt};
-ghost use Rattle.jrows.specs.jcalls.Marks.{Stand};
-ghost use Rattle.jrows.specs.jcalls.Telling.{TellsHeap};
+ghost use Rattle.jruntime.specs.jstate.ObjectCells.{StayCelled};
+ghost use Rattle.jruntime.specs.jstate.FrameLists.{all, holding, with_newest};
+ghost use Rattle.jruntime.specs.jstate.HeapMeanings.{AreBuilt};
+ghost use Rattle.jrows.specs.jcalls.FrameMarks.{Stand};
+ghost use Rattle.jrows.specs.jcalls.MessageThrows.{TellsHeap};
 ghost use Rattle.jrows.specs.jcalls.Throws.{LeavesStanding};
-ghost use Rattle.jlibcalls.specs.jchecks.Judges.{Judges};
+ghost use Rattle.jlibcalls.specs.jchecks.PermissionVerdicts.{Judges};
 
+use jdomain::Verdict;
 use jground::jtext::Units;
-use jheap::Heap;
 use jlib::LibClass;
-use jmodel::jstate::{Frames, library_number};
+use jmemory::jheap::Heap;
 use jperm::{PARTS, Permission, text_laws};
-use jrights::jdomain::Verdict;
 use jrows::jcalls::{Handlers, Raised, raise_with};
+use jruntime::jstate::{Frames, library_number};
 use std::alloc::{AllocError, Global};
 
 /// What a check came to.

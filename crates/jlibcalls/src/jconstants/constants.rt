@@ -1,19 +1,19 @@
 ghost use Rattle.std.specs.Prelude.{◌≡◌, ◌<◌, ◌+◌, ◌^◌, [], IfOk, OnOk};
-ghost use Rattle.jmodel.specs.jmachine.Store.{constant_at};
-ghost use Rattle.jmodel.specs.jstate.Celled.{StayCelled};
-ghost use Rattle.jmodel.specs.jstate.Seen.{AreBuilt};
-ghost use Rattle.jlibcalls.specs.jconstants.Loads.{Loads, Pushes, RaisesNothing, RunsLoad};
-ghost use Rattle.jlibcalls.specs.jconstants.Made.{units_at};
+ghost use Rattle.jsemantics.specs.jmachine.Store.{constant_at};
+ghost use Rattle.jruntime.specs.jstate.ObjectCells.{StayCelled};
+ghost use Rattle.jruntime.specs.jstate.HeapMeanings.{AreBuilt};
+ghost use Rattle.jlibcalls.specs.jconstants.ConstantLoads.{Loads, Pushes, RaisesNothing, RunsLoad};
+ghost use Rattle.jlibcalls.specs.jconstants.StringConstants.{units_at};
 
 use crate::jconstants::known::number_at;
 use crate::jconstants::loading::{first_get, found};
 use crate::jconstants::table::{Table, table_of};
-use jground::jops::Value;
-use jheap::Heap;
 use jlinking::jlink::LinkedProgram;
-use jmodel::jstate::Frames;
+use jmemory::jheap::Heap;
 use jrows::jacts::Way;
 use jrows::jtexts::constant_laws;
+use jruntime::jstate::Frames;
+use jvalues::jops::Value;
 use std::alloc::{AllocError, Global};
 use std::marker::Model;
 
@@ -25,7 +25,7 @@ pub struct Constants<'p> {
 }
 
 impl<'p> Model for Constants<'p> {
-    ghost use Rattle.jlibcalls.specs.jconstants.Made.{IsTable, Made, made_in};
+    ghost use Rattle.jlibcalls.specs.jconstants.StringConstants.{IsTable, Made, made_in};
 
     ghost Value = { Made };
 

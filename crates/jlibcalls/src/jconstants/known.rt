@@ -1,7 +1,7 @@
 ghost use Rattle.std.specs.Prelude.{◌≡◌, ℕ, IfOk, List, Some, replicate};
-ghost use Rattle.jprogram.specs.Classes.{Program};
-ghost use Rattle.jlibcalls.specs.jconstants.Made;
-ghost use Rattle.jlibcalls.specs.jconstants.Made.{AreKnown, AreNone, IsObject};
+ghost use Rattle.jresolution.specs.jprogram.ProgramClasses.{Program};
+ghost use Rattle.jlibcalls.specs.jconstants.StringConstants;
+ghost use Rattle.jlibcalls.specs.jconstants.StringConstants.{AreKnown, AreNone, IsObject};
 
 use jground::jbase::Seq;
 use jlinking::jlink::LinkedProgram;
@@ -30,7 +30,7 @@ pub(crate) fn rows_of(alloc: Global, p: &LinkedProgram) -> Result<Vec<Seq<u32>>,
 /// The number that rows have for an index of a class, 0 for none.
 #[inline]
 pub(crate) fn number_at(rows: &[Seq<u32>], class: u32, index: u16) -> u32
-    ensures { result ≡ Made.number_at rows.now class index }
+    ensures { result ≡ StringConstants.number_at rows.now class index }
 {
     let Some(row) = rows.get(class as usize) else {
         return 0;

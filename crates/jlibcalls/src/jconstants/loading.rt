@@ -1,16 +1,16 @@
 ghost use Rattle.std.specs.Prelude.{◌≡◌, IfOk, None, OnOk};
-ghost use Rattle.jprogram.specs.Names.{place_at};
-ghost use Rattle.jmodel.specs.jmachine.Store.{constant_at};
-ghost use Rattle.jmodel.specs.jstate.Celled.{StayCelled};
-ghost use Rattle.jmodel.specs.jstate.Seen.{AreBuilt};
-ghost use Rattle.jlibcalls.specs.jconstants.Loads.{Loads};
-ghost use Rattle.jlibcalls.specs.jconstants.Made.{IsObject, IsTable, constants_in, made_in, units_at};
+ghost use Rattle.jresolution.specs.jprogram.NameTable.{place_at};
+ghost use Rattle.jsemantics.specs.jmachine.Store.{constant_at};
+ghost use Rattle.jruntime.specs.jstate.ObjectCells.{StayCelled};
+ghost use Rattle.jruntime.specs.jstate.HeapMeanings.{AreBuilt};
+ghost use Rattle.jlibcalls.specs.jconstants.ConstantLoads.{Loads};
+ghost use Rattle.jlibcalls.specs.jconstants.StringConstants.{IsObject, IsTable, constants_in, made_in, units_at};
 
 use crate::jconstants::known::note;
 use crate::jconstants::table::{MadeText, Table, object_of, put};
 use crate::jconstants::texts::units_of;
 use jground::jtext::Units;
-use jheap::Heap;
+use jmemory::jheap::Heap;
 use jrows::jtexts::{constant_laws, make_constant};
 use std::alloc::{AllocError, Global};
 

@@ -1,6 +1,6 @@
 ghost use Rattle.std.specs.Prelude.{◌≡◌, ◌++◌, ◌∷◌, [], IfOk, None, OnOk};
-ghost use Rattle.jprogram.specs.Names.{place_at};
-ghost use Rattle.jlibcalls.specs.jconstants.Made.{IsTable, made_in, units_at};
+ghost use Rattle.jresolution.specs.jprogram.NameTable.{place_at};
+ghost use Rattle.jlibcalls.specs.jconstants.StringConstants.{IsTable, made_in, units_at};
 
 use crate::jconstants::known::rows_of;
 use jground::jbase::Seq;

@@ -1,13 +1,13 @@
 ghost use Rattle.std.specs.Prelude.{◌≡◌, IfOk, option_map, slice_get};
-ghost use Rattle.jprogram.specs.Parts.{text};
-ghost use Rattle.jmeaning.specs.juses.Tables.{pool_at};
-ghost use Rattle.jmodel.specs.jmachine.Making;
-ghost use Rattle.jlibcalls.specs.jconstants.Made.{units_at};
+ghost use Rattle.jresolution.specs.jprogram.ClassFileParts.{text};
+ghost use Rattle.jresolution.specs.juses.PoolTables.{pool_at};
+ghost use Rattle.jsemantics.specs.jmachine.ObjectInstructions;
+ghost use Rattle.jlibcalls.specs.jconstants.StringConstants.{units_at};
 
-use jground::jbase::Stop;
+use jground::jbase::FaultOrMemory;
 use jground::jtext::Units;
 use jlinking::jlink::LinkedProgram;
-use jprogram::{CodePart, text_at};
+use jresolution::jprogram::{CodePart, text_at};
 use std::alloc::{AllocError, Global};
 
 /// The part of a class.
@@ -28,14 +28,14 @@ fn bytes_at(p: &LinkedProgram, class: u32, index: u16) -> &[u8]
 }
 
 /// The units that bytes of a class file hold, none where they are no text.
-#[tactic(auto, unfolding(jmodel::specs::jmachine::Making::units_of))]
+#[tactic(auto, unfolding(jsemantics::specs::jmachine::ObjectInstructions::units_of))]
 fn units_held(alloc: Global, bytes: &[u8]) -> Result<Units, AllocError>
-    ensures { IfOk result (λ units. units ≡ Making.units_of bytes.now) }
+    ensures { IfOk result (λ units. units ≡ ObjectInstructions.units_of bytes.now) }
 {
     match jground::jtext::units_of(alloc, bytes) {
         Ok(units) => Ok(units),
-        Err(Stop::Memory) => Err(AllocError),
-        Err(Stop::Fault(_)) => Ok(Units::new(alloc)),
+        Err(FaultOrMemory::Memory) => Err(AllocError),
+        Err(FaultOrMemory::Fault(_)) => Ok(Units::new(alloc)),
     }
 }
 

@@ -1,12 +1,12 @@
 ghost use Rattle.std.specs.Prelude.{◌≡◌, ◌≤◌, ◌++◌, ◌∷◌, IfOk, OnOk, drop, length, option_map, option_to_list};
-ghost use Rattle.jground.specs.declared.jops.value.Value.TheVariants as values;
-ghost use Rattle.jmodel.specs.jmachine.Frames.{carrying, with_operands};
-ghost use Rattle.jmodel.specs.jstate.Framed.{holding, with_newest};
-ghost use Rattle.jlibcalls.specs.jcontexts.Acting.{ActsStanding, CallsAction, RaisesSteps};
+ghost use Rattle.jvalues.specs.declared.jops.value.Value.TheVariants as values;
+ghost use Rattle.jsemantics.specs.jmachine.FrameOperations.{carrying, with_operands};
+ghost use Rattle.jruntime.specs.jstate.FrameLists.{holding, with_newest};
+ghost use Rattle.jlibcalls.specs.jcontexts.ActionCalls.{ActsStanding, CallsAction, RaisesSteps};
 
-use jground::jops::Value;
-use jmodel::jstate::Frames;
 use jrows::jcalls::Callee;
+use jruntime::jstate::Frames;
+use jvalues::jops::Value;
 use std::alloc::AllocError;
 
 /// What the call of an action came to.
@@ -51,7 +51,7 @@ fn leave_call<M: Copy>(
 
 /// Calls an action with a privilege, where its `run` is a user's method: the frame that calls loses so many operands and carries `caller`
 /// from now on, and a frame of the method begins, with the context, if there is one, and the action.
-#[tactic(auto, using(crate::proofs::JcontextsProofs::Calling::without_code, crate::proofs::JcontextsProofs::Calling::begun_so, crate::proofs::JcontextsProofs::Calling::begun_stands))]
+#[tactic(auto, using(crate::proofs::JcontextsProofs::ActionCalls::without_code, crate::proofs::JcontextsProofs::ActionCalls::begun_so, crate::proofs::JcontextsProofs::ActionCalls::begun_stands))]
 pub fn act<M: Copy>(
     frames: &mut Frames<M>,
     callee: Callee<M>,
@@ -81,7 +81,7 @@ pub fn act<M: Copy>(
 
 /// The law of calls that raise an exception: it is raised in frames whose operands of the call are gone. It has no body to run; its
 /// contract is the law.
-#[tactic(auto, using(crate::proofs::JcontextsProofs::Calling::raises_steps))]
+#[tactic(auto, using(crate::proofs::JcontextsProofs::ActionCalls::raises_steps))]
 pub fn fail_law<M>()
     ensures { RaisesSteps M }
 {}

@@ -1,21 +1,21 @@
 ghost use Rattle.std.specs.Prelude.{◌≡◌, ◌++◌, ◌∷◌, [], IfOk, OnOk, is_some, option_map, true};
-ghost use Rattle.jheap.specs.Heaps.{cells_at, object_at};
-ghost use Rattle.jprogram.specs.declared.part.ClassRef.TheVariants as refs;
-ghost use Rattle.jmodel.specs.jstate.Numbers;
-ghost use Rattle.jmodel.specs.jstate.Seen;
-ghost use Rattle.jmodel.specs.jstate.Seen.{array_at, place_in};
-ghost use Rattle.jlibcalls.specs.jcontexts.Limits;
-ghost use Rattle.jlibcalls.specs.jcontexts.Limits.{LimitIs, Limits, LimitsAre, limit_as};
+ghost use Rattle.jmemory.specs.jheap.Heaps.{cells_at, object_at};
+ghost use Rattle.jresolution.specs.declared.jprogram.part.ClassRef.TheVariants as refs;
+ghost use Rattle.jruntime.specs.jstate.ClassNumbers;
+ghost use Rattle.jruntime.specs.jstate.HeapMeanings;
+ghost use Rattle.jruntime.specs.jstate.HeapMeanings.{array_at, place_in};
+ghost use Rattle.jlibcalls.specs.jcontexts.LimitPermissions;
+ghost use Rattle.jlibcalls.specs.jcontexts.LimitPermissions.{LimitIs, Limits, LimitsAre, limit_as};
 
 use crate::jcontexts::contexts::first_cell;
 use jground::jbase::Seq;
-use jground::jops::Value;
-use jheap::{CellType, Heap, Kind};
 use jlib::LibClass;
-use jmeaning::juses::{ArrayRef, ElementRef};
-use jmodel::jstate::{Shapes, array_type, class_numbered, heap_laws};
+use jmemory::jheap::{CellType, Heap, Kind};
 use jperm::Permission;
-use jprogram::ClassRef;
+use jresolution::jprogram::ClassRef;
+use jresolution::juses::{ArrayRef, ElementRef};
+use jruntime::jstate::{Shapes, array_type, class_numbered, heap_laws};
+use jvalues::jops::Value;
 use std::alloc::{AllocError, Global};
 
 /// What an item of an array of permissions is.
@@ -32,7 +32,7 @@ pub(crate) enum Item<'a> {
 /// Whether a class of the library is one of permissions.
 #[inline]
 fn is_permission_class(class: LibClass) -> bool
-    ensures { result ≡ Limits.is_permission (refs.Lib class) }
+    ensures { result ≡ LimitPermissions.is_permission (refs.Lib class) }
 {
     matches!(class, LibClass::Permission(_))
 }
@@ -40,7 +40,7 @@ fn is_permission_class(class: LibClass) -> bool
 /// Whether the class of one of the heap's numbers is one of permissions.
 #[inline]
 fn is_permission(class: u32) -> bool
-    ensures { result ≡ Limits.is_permission (Numbers.class_numbered class) }
+    ensures { result ≡ LimitPermissions.is_permission (ClassNumbers.class_numbered class) }
 {
     match class_numbered(class) {
         ClassRef::User(_) => false,
@@ -49,9 +49,9 @@ fn is_permission(class: u32) -> bool
 }
 
 /// The place, from 1, of the permission that an object holds, 0 where the object of a number holds none.
-#[tactic(auto, using(crate::proofs::JcontextsProofs::Holding::is_there))]
+#[tactic(auto, using(crate::proofs::JcontextsProofs::ContextContents::is_there))]
 fn permission_place(heap: &Heap, o: u32) -> u64
-    ensures { result ≡ Limits.permission_place heap.now o }
+    ensures { result ≡ LimitPermissions.permission_place heap.now o }
 {
     match heap.found(o) {
         Some(Kind::Object(class)) => {
@@ -79,7 +79,7 @@ fn permission_at(permissions: &[Permission], place: u64) -> Option<&Permission>
 }
 
 /// What a value is as a limit.
-#[tactic(auto, using(crate::proofs::JcontextsProofs::Limiting::null_limits, crate::proofs::JcontextsProofs::Limiting::none_limits))]
+#[tactic(auto, using(crate::proofs::JcontextsProofs::PrivilegeLimits::null_limits, crate::proofs::JcontextsProofs::PrivilegeLimits::none_limits))]
 fn limit<'a>(heap: &Heap, permissions: &'a [Permission], item: Value) -> Item<'a>
     ensures { LimitIs permissions.now heap.now item (limit_as result) }
 {
@@ -111,7 +111,7 @@ fn add(alloc: Global, limits: &mut Seq<Permission>, one: &Permission) -> Result<
 }
 
 /// The permissions that the cells of an object hold as values of a type; null where one of them is.
-#[tactic(auto, using(crate::proofs::JcontextsProofs::Limiting::at_first))]
+#[tactic(auto, using(crate::proofs::JcontextsProofs::PrivilegeLimits::at_first))]
 fn all_limits(
     alloc: Global,
     heap: &Heap,
@@ -134,7 +134,7 @@ fn all_limits(
 }
 
 fn element_type(element: ElementRef) -> CellType
-    ensures { result ≡ Seen.element_type element }
+    ensures { result ≡ HeapMeanings.element_type element }
 {
     match element {
         ElementRef::Boolean => CellType::Int,
@@ -148,7 +148,7 @@ fn element_type(element: ElementRef) -> CellType
 }
 
 fn item_type(a: ArrayRef) -> CellType
-    ensures { result ≡ Seen.item_type a }
+    ensures { result ≡ HeapMeanings.item_type a }
 {
     if a.depth > 1 {
         return CellType::Ref;
@@ -158,14 +158,14 @@ fn item_type(a: ArrayRef) -> CellType
 
 /// The type of the items of the arrays of one of the heap's numbers.
 fn items_of(shapes: &Shapes, number: u32) -> CellType
-    ensures { result ≡ Seen.item_type (array_at shapes.now number) }
+    ensures { result ≡ HeapMeanings.item_type (array_at shapes.now number) }
 {
     item_type(array_type(shapes, number))
 }
 
 /// The permissions that limit a privilege, of the array that an operand names: null where the array or one of its items is, and no answer
 /// where it names something else, or one of the items before is something else. They are copied from those that the machine keeps.
-#[tactic(auto, using(crate::proofs::JcontextsProofs::Holding::is_there, crate::proofs::JcontextsProofs::Limiting::null_array, crate::proofs::JcontextsProofs::Limiting::no_array, crate::proofs::JcontextsProofs::Limiting::an_array))]
+#[tactic(auto, using(crate::proofs::JcontextsProofs::ContextContents::is_there, crate::proofs::JcontextsProofs::PrivilegeLimits::null_array, crate::proofs::JcontextsProofs::PrivilegeLimits::no_array, crate::proofs::JcontextsProofs::PrivilegeLimits::an_array))]
 pub fn limits(
     alloc: Global,
     heap: &Heap,

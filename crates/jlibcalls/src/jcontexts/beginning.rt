@@ -1,18 +1,18 @@
 ghost use Rattle.std.specs.Prelude.{◌≡◌, ◌++◌, ◌∷◌, [], IfOk, OnOk, option_map, option_to_list};
-ghost use Rattle.jground.specs.declared.jops.value.Value.TheVariants as values;
-ghost use Rattle.jmodel.specs.jmachine.Security.{handed};
-ghost use Rattle.jmodel.specs.jstate.Celled.{StayCelled};
-ghost use Rattle.jmodel.specs.jstate.Framed.{starting};
-ghost use Rattle.jmodel.specs.jstate.Seen.{AreBuilt};
+ghost use Rattle.jvalues.specs.declared.jops.value.Value.TheVariants as values;
+ghost use Rattle.jsemantics.specs.jmachine.Security.{handed};
+ghost use Rattle.jruntime.specs.jstate.ObjectCells.{StayCelled};
+ghost use Rattle.jruntime.specs.jstate.FrameLists.{starting};
+ghost use Rattle.jruntime.specs.jstate.HeapMeanings.{AreBuilt};
 ghost use Rattle.jrows.specs.jcalls.Throws.{RaisedHeap};
-ghost use Rattle.jlibcalls.specs.jcontexts.Kept.{StayKept};
-ghost use Rattle.jlibcalls.specs.jcontexts.Beginning.{AsksNothing, Begins, BeginsStanding, EndsUnbegun, FailsFirst, StuckUnbegun};
+ghost use Rattle.jlibcalls.specs.jcontexts.KeptContexts.{StayKept};
+ghost use Rattle.jlibcalls.specs.jcontexts.RunnableStarts.{AsksNothing, Begins, BeginsStanding, EndsUnbegun, FailsFirst, StuckUnbegun};
 
-use jground::jops::Value;
-use jheap::{Heap, Kind};
 use jlib::{Side, Thrown};
-use jmodel::jstate::{Frames, built_laws, celled_laws, heap_laws, number_laws, thrown_number};
+use jmemory::jheap::{Heap, Kind};
 use jrows::jcalls::Callee;
+use jruntime::jstate::{Frames, built_laws, celled_laws, heap_laws, number_laws, thrown_number};
+use jvalues::jops::Value;
 use std::alloc::{AllocError, Global};
 
 /// What a thread inherited that it hands on: nothing on the source side.
@@ -53,7 +53,7 @@ fn first_frame<M: Copy>(
 
 /// The frames of a thread that begins with a user's method as the `run` of its Runnable, which isn't null: what it inherited is handed on
 /// on the passing side. None where there is no step.
-#[tactic(auto, using(crate::proofs::JcontextsProofs::Starting::without_code, crate::proofs::JcontextsProofs::Starting::begins_so, crate::proofs::JcontextsProofs::Starting::begun_stands))]
+#[tactic(auto, using(crate::proofs::JcontextsProofs::ThreadEntries::without_code, crate::proofs::JcontextsProofs::ThreadEntries::begins_so, crate::proofs::JcontextsProofs::ThreadEntries::begun_stands))]
 pub fn begin<M: Copy>(
     alloc: Global,
     callee: Callee<M>,
@@ -74,7 +74,7 @@ pub fn begin<M: Copy>(
 
 /// Raises an exception of a class where a thread was to begin with the `run` of its Runnable. No frame handles it, so that the thread has
 /// ended by it. The answer is no where the heap has too few cells for it, and then nothing has changed.
-#[tactic(auto, using(crate::proofs::JcontextsProofs::Starting::failings))]
+#[tactic(auto, using(crate::proofs::JcontextsProofs::ThreadEntries::failings))]
 pub fn fail_beginning<M>(alloc: Global, heap: &mut Heap, class: Thrown) -> Result<bool, AllocError>
     requires built { AreBuilt heap.old.objects }
     ensures row { IfOk result (λ room. FailsFirst M class heap.old room heap.new) }
@@ -94,7 +94,7 @@ pub fn fail_beginning<M>(alloc: Global, heap: &mut Heap, class: Thrown) -> Resul
 
 /// The laws of threads that begin: one without a Runnable ends, one is stuck whose Runnable is no object, or has its `run` from the
 /// library, and none asks anything of access control. They have no body to run; the contract is the laws.
-#[tactic(auto, using(crate::proofs::JcontextsProofs::Starting::ends_unbegun, crate::proofs::JcontextsProofs::Starting::stuck_unbegun, crate::proofs::JcontextsProofs::Starting::asks_nothing))]
+#[tactic(auto, using(crate::proofs::JcontextsProofs::ThreadEntries::ends_unbegun, crate::proofs::JcontextsProofs::ThreadEntries::stuck_unbegun, crate::proofs::JcontextsProofs::ThreadEntries::asks_nothing))]
 pub fn begin_laws<M>()
     ensures ends { EndsUnbegun M }
     ensures stuck { StuckUnbegun M }

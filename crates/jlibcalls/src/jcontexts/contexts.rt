@@ -1,20 +1,20 @@
 ghost use Rattle.std.specs.Prelude.{◌≡◌, ℕ, List, is_some, true};
-ghost use Rattle.jheap.specs.Heaps.{cells_at, object_at};
-ghost use Rattle.jmodel.specs.jmachine.Privileges;
-ghost use Rattle.jmodel.specs.jmachine.Security.{kept_in};
-ghost use Rattle.jmodel.specs.jmachine.Store.{object_of};
-ghost use Rattle.jprogram.specs.Classes.{Program};
-ghost use Rattle.jprogram.specs.declared.part.ClassRef.TheVariants as refs;
-ghost use Rattle.jmodel.specs.declared.jstate.shapes.Shapes.{Shapes};
-ghost use Rattle.jmodel.specs.jstate.Numbers;
-ghost use Rattle.jmodel.specs.jstate.Seen.{Things, first, place_in, store_by};
-ghost use Rattle.jlibcalls.specs.jcontexts.Kept;
+ghost use Rattle.jmemory.specs.jheap.Heaps.{cells_at, object_at};
+ghost use Rattle.jsemantics.specs.jmachine.PrivilegeActions;
+ghost use Rattle.jsemantics.specs.jmachine.Security.{kept_in};
+ghost use Rattle.jsemantics.specs.jmachine.Store.{object_of};
+ghost use Rattle.jresolution.specs.jprogram.ProgramClasses.{Program};
+ghost use Rattle.jresolution.specs.declared.jprogram.part.ClassRef.TheVariants as refs;
+ghost use Rattle.jruntime.specs.declared.jstate.shapes.Shapes.{Shapes};
+ghost use Rattle.jruntime.specs.jstate.ClassNumbers;
+ghost use Rattle.jruntime.specs.jstate.HeapMeanings.{Things, first, place_in, store_by};
+ghost use Rattle.jlibcalls.specs.jcontexts.KeptContexts;
 
-use jground::jops::Value;
-use jheap::{CellType, Heap, Kind};
 use jlib::LibClass;
-use jmodel::jstate::{class_numbered, heap_laws};
-use jprogram::ClassRef;
+use jmemory::jheap::{CellType, Heap, Kind};
+use jresolution::jprogram::ClassRef;
+use jruntime::jstate::{class_numbered, heap_laws};
+use jvalues::jops::Value;
 
 /// The number in an object's first cell, 0 where it has none.
 #[inline]
@@ -36,7 +36,7 @@ pub(crate) fn first_cell(heap: &Heap, o: u32) -> u64
 /// Whether a class of the library is AccessControlContext.
 #[inline]
 fn is_context_class(class: LibClass) -> bool
-    ensures { result ≡ Kept.is_context (refs.Lib class) }
+    ensures { result ≡ KeptContexts.is_context (refs.Lib class) }
 {
     matches!(class, LibClass::AccessControlContext)
 }
@@ -44,7 +44,7 @@ fn is_context_class(class: LibClass) -> bool
 /// Whether the class of one of the heap's numbers is AccessControlContext.
 #[inline]
 fn is_context(class: u32) -> bool
-    ensures { result ≡ Kept.is_context (Numbers.class_numbered class) }
+    ensures { result ≡ KeptContexts.is_context (ClassNumbers.class_numbered class) }
 {
     match class_numbered(class) {
         ClassRef::User(_) => false,
@@ -53,9 +53,9 @@ fn is_context(class: u32) -> bool
 }
 
 /// The place, from 1, of what an AccessControlContext keeps, 0 where the object of a number is none.
-#[tactic(auto, using(crate::proofs::JcontextsProofs::Holding::is_there))]
+#[tactic(auto, using(crate::proofs::JcontextsProofs::ContextContents::is_there))]
 fn place_held(heap: &Heap, o: u32) -> u64
-    ensures { result ≡ Kept.place_held heap.now o }
+    ensures { result ≡ KeptContexts.place_held heap.now o }
 {
     match heap.found(o) {
         Some(Kind::Object(class)) => {
@@ -86,7 +86,7 @@ fn at_place(kept: &[u64], place: u64) -> Option<u64>
 }
 
 /// What the AccessControlContext keeps that an operand names, where these numbers are kept; none where it names no such object.
-#[tactic(auto, using(crate::proofs::JcontextsProofs::Holding::holds))]
+#[tactic(auto, using(crate::proofs::JcontextsProofs::ContextContents::holds))]
 pub fn kept_of(heap: &Heap, kept: &[u64], operand: Value) -> Option<u64>
     ensures { (p : Program) (shapes : Shapes) (things : Things) (constants : List (List ℕ × ℕ)) → things.kept ≡ kept.now
         → result ≡ kept_in (object_of (store_by p shapes things constants heap.now) operand) }
@@ -101,10 +101,10 @@ pub fn kept_of(heap: &Heap, kept: &[u64], operand: Value) -> Option<u64>
 }
 
 /// The context that is given with an action, where null gives none; no answer where the operand names something else.
-#[tactic(auto, using(crate::proofs::JcontextsProofs::Holding::null_gives, crate::proofs::JcontextsProofs::Holding::one_gives))]
+#[tactic(auto, using(crate::proofs::JcontextsProofs::ContextContents::null_gives, crate::proofs::JcontextsProofs::ContextContents::one_gives))]
 pub fn given(heap: &Heap, kept: &[u64], operand: Value) -> Option<Option<u64>>
     ensures { (p : Program) (shapes : Shapes) (things : Things) (constants : List (List ℕ × ℕ)) → things.kept ≡ kept.now
-        → result ≡ Privileges.given (store_by p shapes things constants heap.now) operand }
+        → result ≡ PrivilegeActions.given (store_by p shapes things constants heap.now) operand }
 {
     match operand {
         Value::Int(_) => None,

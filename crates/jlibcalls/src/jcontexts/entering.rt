@@ -1,15 +1,15 @@
 ghost use Rattle.std.specs.Prelude.{◌≡◌, ◌≤◌, ◌<◌, ◌+◌, ◌^◌, OnOk, length, take};
 ghost use Rattle.jlib.specs.declared.side.Side.TheVariants as sides;
-ghost use Rattle.jground.specs.declared.jops.value.Value.TheVariants as values;
+ghost use Rattle.jvalues.specs.declared.jops.value.Value.TheVariants as values;
 ghost use Rattle.jrows.specs.jcalls.Throws.{LeavesStanding};
-ghost use Rattle.jlibcalls.specs.jcontexts.Acting.{GivesOne};
-ghost use Rattle.jlibcalls.specs.jcontexts.Entering.{EntersWith, SnapshotsWith, entering_with, snapshot_with};
+ghost use Rattle.jlibcalls.specs.jcontexts.ActionCalls.{GivesOne};
+ghost use Rattle.jlibcalls.specs.jcontexts.DomainEntries.{EntersWith, SnapshotsWith, entering_with, snapshot_with};
 
 use crate::jcontexts::requests::{context_in, domain_in};
 use crate::jcontexts::snapshots::give;
-use jground::jops::Value;
 use jlib::Side;
-use jmodel::jstate::Frames;
+use jruntime::jstate::Frames;
+use jvalues::jops::Value;
 use std::alloc::AllocError;
 
 /// A method of a domain that was called with a context.
@@ -20,7 +20,7 @@ pub struct Entering {
 }
 
 /// What two operands tell of a method that is entered.
-#[tactic(auto, using(crate::proofs::JcontextsProofs::Telling::told_so, crate::proofs::JcontextsProofs::Telling::untold, crate::proofs::JcontextsProofs::Telling::without))]
+#[tactic(auto, using(crate::proofs::JcontextsProofs::ContextOperands::told_so, crate::proofs::JcontextsProofs::ContextOperands::untold, crate::proofs::JcontextsProofs::ContextOperands::without))]
 fn entering_of<M: Copy>(frames: &Frames<M>) -> Option<Entering>
     requires { 2 ≤ length frames.now.newest.operands }
     ensures { result ≡ entering_with (take 2 frames.now.newest.operands) }
@@ -35,7 +35,7 @@ fn entering_of<M: Copy>(frames: &Frames<M>) -> Option<Entering>
 }
 
 /// What so many operands tell of it.
-#[tactic(auto, using(crate::proofs::JcontextsProofs::Telling::others_untold))]
+#[tactic(auto, using(crate::proofs::JcontextsProofs::ContextOperands::others_untold))]
 fn entering_told<M: Copy>(frames: &Frames<M>, count: usize) -> Option<Entering>
     requires { count ≤ length frames.now.newest.operands }
     ensures { result ≡ entering_with (take count frames.now.newest.operands) }
@@ -47,7 +47,7 @@ fn entering_told<M: Copy>(frames: &Frames<M>, count: usize) -> Option<Entering>
 }
 
 /// What a call with so many operands asks by which a method of a domain is entered; none where there is no step.
-#[tactic(auto, using(crate::proofs::JcontextsProofs::Telling::enters_with))]
+#[tactic(auto, using(crate::proofs::JcontextsProofs::ContextOperands::enters_with))]
 pub fn find_entering<M: Copy>(frames: &Frames<M>, count: usize) -> Option<Entering>
     requires { count ≤ length frames.now.newest.operands }
     ensures { EntersWith M (take count frames.now.newest.operands) result }
@@ -56,7 +56,7 @@ pub fn find_entering<M: Copy>(frames: &Frames<M>, count: usize) -> Option<Enteri
 }
 
 /// The method is entered with the context of a number, which stands in the place of so many operands then.
-#[tactic(auto, using(crate::proofs::JcontextsProofs::Telling::gives_one, crate::proofs::JcontextsProofs::Telling::given_stands))]
+#[tactic(auto, using(crate::proofs::JcontextsProofs::ContextOperands::gives_one, crate::proofs::JcontextsProofs::ContextOperands::given_stands))]
 pub fn enter<M: Copy>(frames: &mut Frames<M>, count: usize, number: u64) -> Result<(), AllocError>
     requires few { count ≤ length frames.old.newest.operands }
     requires place { frames.old.newest.place + 1 < 2 ^ 32 }
@@ -68,7 +68,7 @@ pub fn enter<M: Copy>(frames: &mut Frames<M>, count: usize, number: u64) -> Resu
 }
 
 /// The context that a call of getContext was given on the passing side, with one operand.
-#[tactic(auto, using(crate::proofs::JcontextsProofs::Telling::some_operand, crate::proofs::JcontextsProofs::Telling::no_context))]
+#[tactic(auto, using(crate::proofs::JcontextsProofs::ContextOperands::some_operand, crate::proofs::JcontextsProofs::ContextOperands::no_context))]
 fn snapshot_ctx<M: Copy>(frames: &Frames<M>) -> Option<Option<u64>>
     requires { 1 ≤ length frames.now.newest.operands }
     ensures { result ≡ snapshot_with sides.Passing (take 1 frames.now.newest.operands) }
@@ -80,7 +80,7 @@ fn snapshot_ctx<M: Copy>(frames: &Frames<M>) -> Option<Option<u64>>
 }
 
 /// The same on a side, with so many operands.
-#[tactic(auto, using(crate::proofs::JcontextsProofs::Telling::no_operands, crate::proofs::JcontextsProofs::Telling::source_others, crate::proofs::JcontextsProofs::Telling::passing_others))]
+#[tactic(auto, using(crate::proofs::JcontextsProofs::ContextOperands::no_operands, crate::proofs::JcontextsProofs::ContextOperands::source_others, crate::proofs::JcontextsProofs::ContextOperands::passing_others))]
 fn snapshot_told<M: Copy>(frames: &Frames<M>, side: Side, count: usize) -> Option<Option<u64>>
     requires { count ≤ length frames.now.newest.operands }
     ensures { result ≡ snapshot_with side (take count frames.now.newest.operands) }
@@ -102,7 +102,7 @@ fn snapshot_told<M: Copy>(frames: &Frames<M>, side: Side, count: usize) -> Optio
 }
 
 /// What a call of getContext on a side asks, with so many operands: the context that it was given, if it was; none where there is no step.
-#[tactic(auto, using(crate::proofs::JcontextsProofs::Telling::snapshots_with))]
+#[tactic(auto, using(crate::proofs::JcontextsProofs::ContextOperands::snapshots_with))]
 pub fn snapshotting<M: Copy>(frames: &Frames<M>, side: Side, count: usize) -> Option<Option<u64>>
     requires { count ≤ length frames.now.newest.operands }
     ensures { SnapshotsWith M side (take count frames.now.newest.operands) result }

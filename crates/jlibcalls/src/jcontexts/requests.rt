@@ -1,16 +1,16 @@
 ghost use Rattle.std.specs.Prelude.{◌≡◌, ◌≤◌, Some, length, take};
 ghost use Rattle.jlib.specs.declared.side.Side.TheVariants as sides;
-ghost use Rattle.jlibcalls.specs.declared.jcontexts.requests.Form.TheVariants as forms;
-ghost use Rattle.jlibcalls.specs.jcontexts.Requests;
-ghost use Rattle.jlibcalls.specs.jcontexts.Requests.{requested, taken_by};
+ghost use Rattle.jlibcalls.specs.declared.jcontexts.requests.PrivilegedForm.TheVariants as forms;
+ghost use Rattle.jlibcalls.specs.jcontexts.PrivilegeRequests;
+ghost use Rattle.jlibcalls.specs.jcontexts.PrivilegeRequests.{requested, taken_by};
 
-use jground::jops::Value;
 use jlib::Side;
-use jmodel::jstate::Frames;
+use jruntime::jstate::Frames;
+use jvalues::jops::Value;
 
 /// A form of doPrivileged.
 #[derive(Clone, Copy)]
-pub enum Form {
+pub enum PrivilegedForm {
     /// Of an action.
     Alone,
     /// Of an action and a context.
@@ -42,23 +42,23 @@ pub(crate) struct Request {
 }
 
 /// How many operands a form takes on a side.
-fn taken_by(side: Side, form: Form) -> usize
-    ensures { result ≡ Requests.taken_by side form }
+fn taken_by(side: Side, form: PrivilegedForm) -> usize
+    ensures { result ≡ PrivilegeRequests.taken_by side form }
 {
     match (side, form) {
-        (Side::Source, Form::Alone) => 1,
-        (Side::Source, Form::Within) => 2,
-        (Side::Source, Form::Limited) => 3,
-        (Side::Passing, Form::Alone) => 2,
-        (Side::Passing, Form::Within) => 3,
-        (Side::Passing, Form::Limited) => 5,
+        (Side::Source, PrivilegedForm::Alone) => 1,
+        (Side::Source, PrivilegedForm::Within) => 2,
+        (Side::Source, PrivilegedForm::Limited) => 3,
+        (Side::Passing, PrivilegedForm::Alone) => 2,
+        (Side::Passing, PrivilegedForm::Within) => 3,
+        (Side::Passing, PrivilegedForm::Limited) => 5,
     }
 }
 
 /// The domain that an operand tells.
 #[inline]
 pub(crate) fn domain_in(value: Value) -> Option<u32>
-    ensures { result ≡ Requests.domain_in value }
+    ensures { result ≡ PrivilegeRequests.domain_in value }
 {
     match value {
         Value::Int(d) => Some(d.cast_unsigned()),
@@ -71,7 +71,7 @@ pub(crate) fn domain_in(value: Value) -> Option<u32>
 /// The context that an operand is.
 #[inline]
 pub(crate) fn context_in(value: Value) -> Option<u64>
-    ensures { result ≡ Requests.context_in value }
+    ensures { result ≡ PrivilegeRequests.context_in value }
 {
     match value {
         Value::Int(_) => None,
@@ -82,23 +82,23 @@ pub(crate) fn context_in(value: Value) -> Option<u64>
 }
 
 /// What a call on the source side is given, whose operands are there.
-#[tactic(auto, using(crate::proofs::JcontextsProofs::Requesting::source_alone, crate::proofs::JcontextsProofs::Requesting::source_within, crate::proofs::JcontextsProofs::Requesting::source_limited))]
-fn source_request<M: Copy>(frames: &Frames<M>, form: Form) -> Request
+#[tactic(auto, using(crate::proofs::JcontextsProofs::PrivilegedArguments::source_alone, crate::proofs::JcontextsProofs::PrivilegedArguments::source_within, crate::proofs::JcontextsProofs::PrivilegedArguments::source_limited))]
+fn source_request<M: Copy>(frames: &Frames<M>, form: PrivilegedForm) -> Request
     requires { taken_by sides.Source form ≤ length frames.now.newest.operands }
     ensures { Some result ≡ requested sides.Source form (take (taken_by sides.Source form) frames.now.newest.operands) }
 {
     match form {
-        Form::Alone => Request {
+        PrivilegedForm::Alone => Request {
             domain: None,
             besides: Besides::Nothing,
             action: frames.operand(0),
         },
-        Form::Within => Request {
+        PrivilegedForm::Within => Request {
             domain: None,
             besides: Besides::Context(frames.operand(0)),
             action: frames.operand(1),
         },
-        Form::Limited => Request {
+        PrivilegedForm::Limited => Request {
             domain: None,
             besides: Besides::Limits {
                 ctx: None,
@@ -111,7 +111,7 @@ fn source_request<M: Copy>(frames: &Frames<M>, form: Form) -> Request
 }
 
 /// What a call of an action on the passing side is given, whose operands are there.
-#[tactic(auto, using(crate::proofs::JcontextsProofs::Requesting::passing_alone, crate::proofs::JcontextsProofs::Requesting::alone_untold))]
+#[tactic(auto, using(crate::proofs::JcontextsProofs::PrivilegedArguments::passing_alone, crate::proofs::JcontextsProofs::PrivilegedArguments::alone_untold))]
 fn passing_alone<M: Copy>(frames: &Frames<M>) -> Option<Request>
     requires { 2 ≤ length frames.now.newest.operands }
     ensures { result ≡ requested sides.Passing forms.Alone (take 2 frames.now.newest.operands) }
@@ -127,7 +127,7 @@ fn passing_alone<M: Copy>(frames: &Frames<M>) -> Option<Request>
 }
 
 /// What one of an action and a context is given.
-#[tactic(auto, using(crate::proofs::JcontextsProofs::Requesting::passing_within, crate::proofs::JcontextsProofs::Requesting::within_untold))]
+#[tactic(auto, using(crate::proofs::JcontextsProofs::PrivilegedArguments::passing_within, crate::proofs::JcontextsProofs::PrivilegedArguments::within_untold))]
 fn passing_within<M: Copy>(frames: &Frames<M>) -> Option<Request>
     requires { 3 ≤ length frames.now.newest.operands }
     ensures { result ≡ requested sides.Passing forms.Within (take 3 frames.now.newest.operands) }
@@ -143,7 +143,7 @@ fn passing_within<M: Copy>(frames: &Frames<M>) -> Option<Request>
 }
 
 /// What one of an action, a context and permissions is given.
-#[tactic(auto, using(crate::proofs::JcontextsProofs::Requesting::passing_limited, crate::proofs::JcontextsProofs::Requesting::limited_untold, crate::proofs::JcontextsProofs::Requesting::limited_without))]
+#[tactic(auto, using(crate::proofs::JcontextsProofs::PrivilegedArguments::passing_limited, crate::proofs::JcontextsProofs::PrivilegedArguments::limited_untold, crate::proofs::JcontextsProofs::PrivilegedArguments::limited_without))]
 fn passing_limited<M: Copy>(frames: &Frames<M>) -> Option<Request>
     requires { 5 ≤ length frames.now.newest.operands }
     ensures { result ≡ requested sides.Passing forms.Limited (take 5 frames.now.newest.operands) }
@@ -166,11 +166,11 @@ fn passing_limited<M: Copy>(frames: &Frames<M>) -> Option<Request>
 }
 
 /// What a call of doPrivileged is given with so many operands, where they are such.
-#[tactic(auto, using(crate::proofs::JcontextsProofs::Requesting::other_count))]
+#[tactic(auto, using(crate::proofs::JcontextsProofs::PrivilegedArguments::other_count))]
 pub(crate) fn request_by<M: Copy>(
     frames: &Frames<M>,
     side: Side,
-    form: Form,
+    form: PrivilegedForm,
     count: usize,
 ) -> Option<Request>
     requires { count ≤ length frames.now.newest.operands }
@@ -181,8 +181,8 @@ pub(crate) fn request_by<M: Copy>(
     }
     match (side, form) {
         (Side::Source, _) => Some(source_request(frames, form)),
-        (Side::Passing, Form::Alone) => passing_alone(frames),
-        (Side::Passing, Form::Within) => passing_within(frames),
-        (Side::Passing, Form::Limited) => passing_limited(frames),
+        (Side::Passing, PrivilegedForm::Alone) => passing_alone(frames),
+        (Side::Passing, PrivilegedForm::Within) => passing_within(frames),
+        (Side::Passing, PrivilegedForm::Limited) => passing_limited(frames),
     }
 }

@@ -1,23 +1,23 @@
 ghost use Rattle.std.specs.Prelude.{◌≡◌, ◌≤◌, ◌<◌, ◌+◌, ◌^◌, ◌∷◌, [], Some, IfOk, OnOk, drop, length, true};
-ghost use Rattle.jmodel.specs.jmachine.Frames.{onward};
-ghost use Rattle.jprogram.specs.Classes.{Program};
-ghost use Rattle.jmodel.specs.declared.jstate.shapes.Shapes.{Shapes};
-ghost use Rattle.jmodel.specs.jstate.Celled.{StayCelled};
-ghost use Rattle.jmodel.specs.jstate.Framed.{holding, with_newest};
-ghost use Rattle.jmodel.specs.jstate.Seen.{AreBuilt, Things, place_in};
+ghost use Rattle.jsemantics.specs.jmachine.FrameOperations.{onward};
+ghost use Rattle.jresolution.specs.jprogram.ProgramClasses.{Program};
+ghost use Rattle.jruntime.specs.declared.jstate.shapes.Shapes.{Shapes};
+ghost use Rattle.jruntime.specs.jstate.ObjectCells.{StayCelled};
+ghost use Rattle.jruntime.specs.jstate.FrameLists.{holding, with_newest};
+ghost use Rattle.jruntime.specs.jstate.HeapMeanings.{AreBuilt, Things, place_in};
 ghost use Rattle.jrows.specs.jcalls.Throws.{LeavesStanding};
-ghost use Rattle.jlibcalls.specs.jcontexts.Kept.{AreKept, IsKeptAt, StayHeld, with_kept};
+ghost use Rattle.jlibcalls.specs.jcontexts.KeptContexts.{AreKept, IsKeptAt, StayHeld, with_kept};
 ghost use Rattle.jlibcalls.specs.jcontexts.Snapshots.{MakesContext, Snapshots};
 
 use jground::jbase::Seq;
-use jground::jops::Value;
-use jheap::{Heap, Kind};
 use jlib::LibClass;
-use jmodel::jstate::{Frames, built_laws, celled_laws, heap_laws, library_number};
+use jmemory::jheap::{Heap, Kind};
+use jruntime::jstate::{Frames, built_laws, celled_laws, heap_laws, library_number};
+use jvalues::jops::Value;
 use std::alloc::{AllocError, Global};
 
 /// Whether a number is the last of those that are kept.
-#[tactic(auto, using(crate::proofs::JcontextsProofs::Keeping::last_is))]
+#[tactic(auto, using(crate::proofs::JcontextsProofs::SnapshotStability::last_is))]
 fn is_last(kept: &[u64], number: u64) -> bool
     ensures { result ≡ true → place_in kept.now (length kept.now) ≡ Some number }
 {
@@ -29,7 +29,7 @@ fn is_last(kept: &[u64], number: u64) -> bool
 }
 
 /// The place, from 1, of a number among those that are kept, which it is put behind if it isn't the last of them.
-#[tactic(auto, using(crate::proofs::JcontextsProofs::Keeping::stays_there, crate::proofs::JcontextsProofs::Keeping::stands_behind))]
+#[tactic(auto, using(crate::proofs::JcontextsProofs::SnapshotStability::stays_there, crate::proofs::JcontextsProofs::SnapshotStability::stands_behind))]
 fn keep(kept: &mut Seq<u64>, number: u64) -> Result<u32, AllocError>
     ensures { IfOk result (λ place. IsKeptAt number kept.old place kept.new) }
 {
@@ -45,7 +45,7 @@ fn keep(kept: &mut Seq<u64>, number: u64) -> Result<u32, AllocError>
 }
 
 /// Makes an AccessControlContext that holds a place. The cells for it are left.
-#[tactic(auto, using(crate::proofs::JcontextsProofs::Making::makings))]
+#[tactic(auto, using(crate::proofs::JcontextsProofs::ContextCreation::makings))]
 fn make_context(alloc: Global, heap: &mut Heap, place: u32) -> Result<u32, AllocError>
     requires built { AreBuilt heap.old.objects }
     requires room { 2 ≤ heap.old.left }
@@ -82,7 +82,7 @@ pub(crate) fn give<M: Copy>(
 
 /// Makes an AccessControlContext that keeps a number, as getContext does, in the place of so many operands of its call. The answer is no
 /// where the heap has too few cells for it, and then nothing has changed. After an error nothing is said.
-#[tactic(auto, using(crate::proofs::JcontextsProofs::Keeping::stay_kept, crate::proofs::JcontextsProofs::Snapping::snappings))]
+#[tactic(auto, using(crate::proofs::JcontextsProofs::SnapshotStability::stay_kept, crate::proofs::JcontextsProofs::SnapshotOutcomes::snappings))]
 pub fn snapshot<M: Copy>(
     alloc: Global,
     frames: &mut Frames<M>,

@@ -1,19 +1,19 @@
 ghost use Rattle.std.specs.Prelude.{◌≡◌, ◌≤◌, ℕ, List, IfOk, length, take};
-ghost use Rattle.jmodel.specs.jmachine.Store.{Store};
-ghost use Rattle.jprogram.specs.Classes.{Program};
-ghost use Rattle.jmodel.specs.declared.jstate.shapes.Shapes.{Shapes as ShapesOf};
-ghost use Rattle.jmodel.specs.jstate.Seen.{Things, store_by};
-ghost use Rattle.jlibcalls.specs.jcontexts.Privileging.{FindsBy, WantsAction, WantsBy, WantsRequest, WantsWithin};
+ghost use Rattle.jsemantics.specs.jmachine.Store.{Store};
+ghost use Rattle.jresolution.specs.jprogram.ProgramClasses.{Program};
+ghost use Rattle.jruntime.specs.declared.jstate.shapes.Shapes.{Shapes as ShapesOf};
+ghost use Rattle.jruntime.specs.jstate.HeapMeanings.{Things, store_by};
+ghost use Rattle.jlibcalls.specs.jcontexts.PrivilegeCalls.{FindsBy, WantsAction, WantsBy, WantsRequest, WantsWithin};
 
 use crate::jcontexts::arrays::limits;
 use crate::jcontexts::contexts::given;
-use crate::jcontexts::requests::{Besides, Form, Request, request_by};
+use crate::jcontexts::requests::{Besides, PrivilegedForm, Request, request_by};
 use jground::jbase::Seq;
-use jground::jops::Value;
-use jheap::Heap;
 use jlib::Side;
-use jmodel::jstate::{Frames, Shapes};
+use jmemory::jheap::Heap;
 use jperm::Permission;
+use jruntime::jstate::{Frames, Shapes};
+use jvalues::jops::Value;
 use std::alloc::{AllocError, Global};
 
 /// A privilege that is asked for, where the action's `run` is called.
@@ -42,7 +42,7 @@ pub enum Privileging {
 }
 
 /// What is wanted with an action, by what is given with it and what limits it.
-#[tactic(auto, using(crate::proofs::JcontextsProofs::Finding::actions))]
+#[tactic(auto, using(crate::proofs::JcontextsProofs::PrivilegedCalls::actions))]
 fn by_action<M>(
     domain: Option<u32>,
     ctx: Option<u64>,
@@ -72,7 +72,7 @@ fn by_action<M>(
 }
 
 /// The same, by the operand that is the context.
-#[tactic(auto, using(crate::proofs::JcontextsProofs::Finding::no_context, crate::proofs::JcontextsProofs::Finding::some_context))]
+#[tactic(auto, using(crate::proofs::JcontextsProofs::PrivilegedCalls::no_context, crate::proofs::JcontextsProofs::PrivilegedCalls::some_context))]
 fn by_context<M>(
     heap: &Heap,
     kept: &[u64],
@@ -92,7 +92,7 @@ fn by_context<M>(
 }
 
 /// The same, by what the array of permissions is.
-#[tactic(auto, using(crate::proofs::JcontextsProofs::Finding::no_limits, crate::proofs::JcontextsProofs::Finding::null_limits, crate::proofs::JcontextsProofs::Finding::some_limits))]
+#[tactic(auto, using(crate::proofs::JcontextsProofs::PrivilegedCalls::no_limits, crate::proofs::JcontextsProofs::PrivilegedCalls::null_limits, crate::proofs::JcontextsProofs::PrivilegedCalls::some_limits))]
 fn by_limits<M>(
     heap: &Heap,
     kept: &[u64],
@@ -115,7 +115,7 @@ fn by_limits<M>(
 }
 
 /// What a request wants.
-#[tactic(auto, using(crate::proofs::JcontextsProofs::Finding::alone_wants, crate::proofs::JcontextsProofs::Finding::within_wants, crate::proofs::JcontextsProofs::Finding::limited_wants))]
+#[tactic(auto, using(crate::proofs::JcontextsProofs::PrivilegedCalls::alone_wants, crate::proofs::JcontextsProofs::PrivilegedCalls::within_wants, crate::proofs::JcontextsProofs::PrivilegedCalls::limited_wants))]
 fn by_request<M>(
     alloc: Global,
     heap: &Heap,
@@ -148,7 +148,7 @@ fn by_request<M>(
 
 /// What a call of doPrivileged wants, of a form on a side, with so many operands. A privilege is to be asked for where the action's
 /// `run` is called.
-#[tactic(auto, using(crate::proofs::JcontextsProofs::Finding::nothing_found, crate::proofs::JcontextsProofs::Finding::found_so))]
+#[tactic(auto, using(crate::proofs::JcontextsProofs::PrivilegedCalls::nothing_found, crate::proofs::JcontextsProofs::PrivilegedCalls::found_so))]
 pub fn find_privilege<M: Copy>(
     alloc: Global,
     frames: &Frames<M>,
@@ -157,7 +157,7 @@ pub fn find_privilege<M: Copy>(
     permissions: &[Permission],
     kept: &[u64],
     side: Side,
-    form: Form,
+    form: PrivilegedForm,
     count: usize,
 ) -> Result<Privileging, AllocError>
     requires { count ≤ length frames.now.newest.operands }

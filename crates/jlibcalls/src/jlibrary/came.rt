@@ -1,4 +1,4 @@
-use jrights::jtrace::Event;
+use joutput::jtrace::Event;
 use jrows::jtexts::Ran;
 
 /// What a call of the library came to, and what it told.

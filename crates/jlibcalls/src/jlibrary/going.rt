@@ -1,12 +1,12 @@
 ghost use Rattle.std.specs.Prelude.{◌≡◌, ◌<◌, ◌≤◌, ◌+◌, ◌∷◌, ◌^◌, [], IfOk, OnOk, drop, length};
-ghost use Rattle.jmodel.specs.jmachine.Frames.{onward, with_operands};
-ghost use Rattle.jmodel.specs.jstate.Framed.{with_newest};
-ghost use Rattle.jlibcalls.specs.jlibrary.Ran.{Leaves};
+ghost use Rattle.jsemantics.specs.jmachine.FrameOperations.{onward, with_operands};
+ghost use Rattle.jruntime.specs.jstate.FrameLists.{with_newest};
+ghost use Rattle.jlibcalls.specs.jlibrary.LibraryOutcomes.{Leaves};
 
-use jground::jops::Value;
-use jmodel::jstate::Frames;
 use jrows::jacts::Way;
 use jrows::jtexts::Ran;
+use jruntime::jstate::Frames;
+use jvalues::jops::Value;
 use std::alloc::AllocError;
 
 /// The frame goes on behind its call with a value in the place of so many operands.

@@ -1,22 +1,22 @@
 ghost use Rattle.std.specs.Prelude.{◌≡◌, ◌+◌, IfOk, IfSome, OnOk, Ok, length};
-ghost use Rattle.jmodel.specs.jmachine.Permissions.{class_of as class_by, constructed, made_in};
-ghost use Rattle.jprogram.specs.Classes.{Program};
-ghost use Rattle.jprogram.specs.declared.part.ClassRef.TheVariants as refs;
-ghost use Rattle.jmodel.specs.declared.jstate.shapes.Shapes.{Shapes};
-ghost use Rattle.jmodel.specs.jstate.Celled.{StayCelled};
-ghost use Rattle.jmodel.specs.jstate.Seen.{AreBuilt};
-ghost use Rattle.jlibcalls.specs.jlibrary.Held.{AreHeld, HasHolder, is_permission as holds_one, is_permission_class as is_of_permissions};
-ghost use Rattle.jlibcalls.specs.jlibrary.Ran.{Constructs};
+ghost use Rattle.jsemantics.specs.jmachine.PermissionCalls.{class_of as class_by, constructed, made_in};
+ghost use Rattle.jresolution.specs.jprogram.ProgramClasses.{Program};
+ghost use Rattle.jresolution.specs.declared.jprogram.part.ClassRef.TheVariants as refs;
+ghost use Rattle.jruntime.specs.declared.jstate.shapes.Shapes.{Shapes};
+ghost use Rattle.jruntime.specs.jstate.ObjectCells.{StayCelled};
+ghost use Rattle.jruntime.specs.jstate.HeapMeanings.{AreBuilt};
+ghost use Rattle.jlibcalls.specs.jlibrary.HeldPermissions.{AreHeld, HasHolder, is_permission as holds_one, is_permission_class as is_of_permissions};
+ghost use Rattle.jlibcalls.specs.jlibrary.LibraryOutcomes.{Constructs};
 
 use jground::jbase::Seq;
-use jground::jops::Value;
 use jground::jtext::Units;
-use jheap::{Heap, Kind};
 use jlib::{LibClass, PermissionInit, Thrown};
-use jmodel::jstate::{built_laws, celled_laws, class_numbered, heap_laws};
+use jmemory::jheap::{Heap, Kind};
 use jperm::{PermClass, PermError, Permission, make};
-use jprogram::ClassRef;
+use jresolution::jprogram::ClassRef;
 use jrows::jtexts::{Ran, ran_laws};
+use jruntime::jstate::{built_laws, celled_laws, class_numbered, heap_laws};
+use jvalues::jops::Value;
 use std::alloc::{AllocError, Global};
 
 /// Whether a class of the library is one of permissions.

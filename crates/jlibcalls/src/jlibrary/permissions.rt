@@ -1,23 +1,23 @@
 ghost use Rattle.std.specs.Prelude.{◌≡◌, ◌≤◌, ◌∷◌, [], ℕ, List, IfOk, None, OnOk, length, take};
-ghost use Rattle.jmodel.specs.jmachine.Permissions.{init as init_row, text as text_of};
-ghost use Rattle.jprogram.specs.Classes.{Program};
-ghost use Rattle.jmodel.specs.declared.jstate.shapes.Shapes.{Shapes};
-ghost use Rattle.jmodel.specs.jstate.Celled.{StayCelled};
-ghost use Rattle.jmodel.specs.jstate.Seen.{AreBuilt, Things, store_by};
-ghost use Rattle.jlibcalls.specs.jlibrary.Held.{AreHeld, HasHolder};
-ghost use Rattle.jlibcalls.specs.jlibrary.Ran.{Constructs};
-ghost use Rattle.jlibcalls.specs.jlibrary.Values.{one_in};
+ghost use Rattle.jsemantics.specs.jmachine.PermissionCalls.{init as init_row, text as text_of};
+ghost use Rattle.jresolution.specs.jprogram.ProgramClasses.{Program};
+ghost use Rattle.jruntime.specs.declared.jstate.shapes.Shapes.{Shapes};
+ghost use Rattle.jruntime.specs.jstate.ObjectCells.{StayCelled};
+ghost use Rattle.jruntime.specs.jstate.HeapMeanings.{AreBuilt, Things, store_by};
+ghost use Rattle.jlibcalls.specs.jlibrary.HeldPermissions.{AreHeld, HasHolder};
+ghost use Rattle.jlibcalls.specs.jlibrary.LibraryOutcomes.{Constructs};
+ghost use Rattle.jlibcalls.specs.jlibrary.CallOperands.{one_in};
 
 use crate::jlibrary::making::construct;
 use crate::jlibrary::taken::{one, three, two};
 use jground::jbase::Seq;
-use jground::jops::Value;
 use jground::jtext::Units;
-use jheap::Heap;
 use jlib::PermissionInit;
-use jmodel::jstate::Frames;
+use jmemory::jheap::Heap;
 use jperm::Permission;
 use jrows::jtexts::{Ran, is_null, reference, text_units};
+use jruntime::jstate::Frames;
+use jvalues::jops::Value;
 use std::alloc::{AllocError, Global};
 
 /// The units of the string that a value names, or that it is null; none where it is something else.

@@ -1,19 +1,19 @@
 ghost use Rattle.std.specs.Option.{option_to_list};
 ghost use Rattle.std.specs.Prelude.{◌≡◌, ◌≤◌, ℕ, IfOk, length, take};
-ghost use Rattle.jmodel.specs.jmachine.Store.{Store};
-ghost use Rattle.jmodel.specs.jmachine.Texts.{print as print_row, print_end as end_row};
-ghost use Rattle.jmodel.specs.declared.jstate.shapes.Shapes.{Shapes};
-ghost use Rattle.jrows.specs.jtexts.Rans.{Comes, leaves};
-ghost use Rattle.jlibcalls.specs.jlibrary.Ran.{Does, came_by};
+ghost use Rattle.jsemantics.specs.jmachine.Store.{Store};
+ghost use Rattle.jsemantics.specs.jmachine.TextCalls.{print as print_row, print_end as end_row};
+ghost use Rattle.jruntime.specs.declared.jstate.shapes.Shapes.{Shapes};
+ghost use Rattle.jrows.specs.jtexts.TextCallOutcomes.{Comes, leaves};
+ghost use Rattle.jlibcalls.specs.jlibrary.LibraryOutcomes.{Does, came_by};
 
 use crate::jlibrary::came::Came;
 use crate::jlibrary::taken::{one, two};
 use jground::jtext::Units;
-use jheap::Heap;
-use jlib::Piece;
-use jmodel::jstate::Frames;
-use jrights::jtrace::Event;
+use jlib::PrintedType;
+use jmemory::jheap::Heap;
+use joutput::jtrace::Event;
 use jrows::jtexts::{Ran, print, print_end};
+use jruntime::jstate::Frames;
 use std::alloc::{AllocError, Global};
 
 /// What printed this text, if there was one.
@@ -39,7 +39,7 @@ pub(crate) fn print_value<M: Copy>(
     frames: &Frames<M>,
     heap: &Heap,
     thread: u32,
-    piece: Piece,
+    piece: PrintedType,
     count: usize,
 ) -> Result<Came, AllocError>
     requires { count ≤ length frames.now.newest.operands }

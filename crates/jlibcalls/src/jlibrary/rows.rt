@@ -1,25 +1,25 @@
 ghost use Rattle.std.specs.Prelude.{◌≡◌, ◌≤◌, None, ℕ, IfOk, OnOk, Some, length, take};
-ghost use Rattle.jmodel.specs.jmachine.Calls.{receiver};
-ghost use Rattle.jground.specs.declared.jops.value.Value.{Value as Held};
-ghost use Rattle.jprogram.specs.Classes.{Program};
-ghost use Rattle.jmodel.specs.jstate.Celled.{AreCelled, StayCelled};
-ghost use Rattle.jmodel.specs.jstate.Seen.{AreBuilt};
+ghost use Rattle.jsemantics.specs.jmachine.CallTargets.{receiver};
+ghost use Rattle.jvalues.specs.declared.jops.value.Value.{Value as Held};
+ghost use Rattle.jresolution.specs.jprogram.ProgramClasses.{Program};
+ghost use Rattle.jruntime.specs.jstate.ObjectCells.{AreCelled, StayCelled};
+ghost use Rattle.jruntime.specs.jstate.HeapMeanings.{AreBuilt};
 ghost use Rattle.jrows.specs.jtexts.Messages.{MayBeTold};
-ghost use Rattle.jlibcalls.specs.jlibrary.Held.{AreHeld};
-ghost use Rattle.jlibcalls.specs.jlibrary.Ran.{CallDoes, IsTelling};
+ghost use Rattle.jlibcalls.specs.jlibrary.HeldPermissions.{AreHeld};
+ghost use Rattle.jlibcalls.specs.jlibrary.LibraryOutcomes.{CallDoes, IsTelling};
 
 use crate::jlibrary::came::Came;
 use crate::jlibrary::permissions::permission_init;
 use crate::jlibrary::printing::{print_nothing, print_value};
-use crate::jlibrary::running::Fixed;
+use crate::jlibrary::running::CallEnvironment;
 use crate::jlibrary::texts::{builder, string};
 use crate::jlibrary::thrown::{get_message, object, thrown_init, told};
 use jground::jbase::Seq;
-use jheap::Heap;
 use jlib::LibCall;
-use jmodel::jstate::{Frames, celled_laws};
+use jmemory::jheap::Heap;
 use jperm::Permission;
 use jrows::jtexts::{Ran, cells_laws};
+use jruntime::jstate::{Frames, celled_laws};
 use std::alloc::{AllocError, Global};
 
 /// What a call came to that told nothing.
@@ -37,7 +37,7 @@ pub(crate) fn row<M: Copy>(
     frames: &Frames<M>,
     heap: &mut Heap,
     permissions: &mut Seq<Permission>,
-    fixed: &Fixed<'_>,
+    fixed: &CallEnvironment<'_>,
     call: LibCall,
     count: usize,
 ) -> Result<Came, AllocError>

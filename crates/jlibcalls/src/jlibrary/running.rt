@@ -1,29 +1,29 @@
 ghost use Rattle.std.specs.Prelude.{◌≡◌, ◌<◌, ◌≤◌, ◌+◌, ◌^◌, ℕ, IfOk, OnOk, Some, length, take};
-ghost use Rattle.jmodel.specs.jmachine.Calls.{receiver};
-ghost use Rattle.jground.specs.declared.jops.value.Value.{Value as Held};
-ghost use Rattle.jprogram.specs.Classes.{Program};
-ghost use Rattle.jmodel.specs.jstate.Celled.{AreCelled, StayCelled};
-ghost use Rattle.jmodel.specs.jstate.Seen.{AreBuilt};
+ghost use Rattle.jsemantics.specs.jmachine.CallTargets.{receiver};
+ghost use Rattle.jvalues.specs.declared.jops.value.Value.{Value as Held};
+ghost use Rattle.jresolution.specs.jprogram.ProgramClasses.{Program};
+ghost use Rattle.jruntime.specs.jstate.ObjectCells.{AreCelled, StayCelled};
+ghost use Rattle.jruntime.specs.jstate.HeapMeanings.{AreBuilt};
 ghost use Rattle.jrows.specs.jtexts.Messages.{MayBeTold};
-ghost use Rattle.jlibcalls.specs.jlibrary.Held.{AreHeld};
-ghost use Rattle.jlibcalls.specs.jlibrary.Ran.{IsAskFree, IsTelling, Runs, Stays};
+ghost use Rattle.jlibcalls.specs.jlibrary.HeldPermissions.{AreHeld};
+ghost use Rattle.jlibcalls.specs.jlibrary.LibraryOutcomes.{IsAskFree, IsTelling, Runs, Stays};
 
 use crate::jlibrary::came::Came;
 use crate::jlibrary::going::go;
 use crate::jlibrary::rows::row;
 use jground::jbase::Seq;
 use jground::jtext::Units;
-use jheap::Heap;
 use jlib::LibCall;
-use jmodel::jstate::{Frames, Shapes};
+use jmemory::jheap::Heap;
+use joutput::jtrace::Event;
 use jperm::Permission;
-use jrights::jtrace::Event;
 use jrows::jacts::Way;
+use jruntime::jstate::{Frames, Shapes};
 use std::alloc::{AllocError, Global};
 
 /// What a call of the library has to know of where it runs.
 #[derive(Clone, Copy)]
-pub struct Fixed<'a> {
+pub struct CallEnvironment<'a> {
     /// What stands in the heap's cells.
     pub shapes: &'a Shapes,
     /// The directory in which the names of files are read.
@@ -50,7 +50,7 @@ pub fn run<M: Copy>(
     frames: &mut Frames<M>,
     heap: &mut Heap,
     permissions: &mut Seq<Permission>,
-    fixed: &Fixed<'_>,
+    fixed: &CallEnvironment<'_>,
     call: LibCall,
     count: usize,
 ) -> Result<Done, AllocError>

@@ -1,8 +1,8 @@
 ghost use Rattle.std.specs.Prelude.{◌≡◌, ◌≤◌, length, take};
-ghost use Rattle.jlibcalls.specs.jlibrary.Values.{one_in, three_in, two_in};
+ghost use Rattle.jlibcalls.specs.jlibrary.CallOperands.{one_in, three_in, two_in};
 
-use jground::jops::Value;
-use jmodel::jstate::Frames;
+use jruntime::jstate::Frames;
+use jvalues::jops::Value;
 
 /// The operand of a call that takes one.
 #[inline]

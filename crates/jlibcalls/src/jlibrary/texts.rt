@@ -1,22 +1,22 @@
 ghost use Rattle.std.specs.Prelude.{◌≤◌, ◌∷◌, [], ℕ, IfOk, OnOk, length as len, take};
 ghost use Rattle.jlib.specs.declared.calls.BuilderCall.TheVariants as builders;
 ghost use Rattle.jlib.specs.declared.calls.StringCall.TheVariants as calls;
-ghost use Rattle.jground.specs.declared.jops.value.Value.{Value as Held};
-ghost use Rattle.jmodel.specs.jmachine.Texts.{builder as builder_row, string as string_row};
-ghost use Rattle.jmodel.specs.declared.jstate.shapes.Shapes.{Shapes};
-ghost use Rattle.jmodel.specs.jstate.Celled.{StayCelled};
-ghost use Rattle.jmodel.specs.jstate.Seen.{AreBuilt};
+ghost use Rattle.jvalues.specs.declared.jops.value.Value.{Value as Held};
+ghost use Rattle.jsemantics.specs.jmachine.TextCalls.{builder as builder_row, string as string_row};
+ghost use Rattle.jruntime.specs.declared.jstate.shapes.Shapes.{Shapes};
+ghost use Rattle.jruntime.specs.jstate.ObjectCells.{StayCelled};
+ghost use Rattle.jruntime.specs.jstate.HeapMeanings.{AreBuilt};
 ghost use Rattle.jrows.specs.jtexts.HeapBuilders.{HasLast};
-ghost use Rattle.jlibcalls.specs.jlibrary.Ran.{Does};
+ghost use Rattle.jlibcalls.specs.jlibrary.LibraryOutcomes.{Does};
 
 use crate::jlibrary::taken::{one, two};
-use jground::jops::Value;
-use jheap::Heap;
-use jlib::{BuilderCall, Piece, StringCall};
-use jmodel::jstate::Frames;
+use jlib::{BuilderCall, PrintedType, StringCall};
+use jmemory::jheap::Heap;
 use jrows::jtexts::{
     Ran, append, builder_init, builder_of_text, built_text, char_at, concat, equals, length,
 };
+use jruntime::jstate::Frames;
+use jvalues::jops::Value;
 use std::alloc::{AllocError, Global};
 
 /// String's `length`.
@@ -153,7 +153,7 @@ fn builder_append<M: Copy>(
     alloc: Global,
     frames: &Frames<M>,
     heap: &mut Heap,
-    piece: Piece,
+    piece: PrintedType,
     count: usize,
 ) -> Result<Ran, AllocError>
     requires few { count ≤ len frames.now.newest.operands }

@@ -1,21 +1,21 @@
 ghost use Rattle.std.specs.Prelude.{◌≡◌, ◌≤◌, [], ℕ, Some, length, take};
 ghost use Rattle.jlib.specs.declared.calls.ThrownInit.TheVariants as given;
-ghost use Rattle.jground.specs.declared.jops.value.Value.{Value as Held};
-ghost use Rattle.jmodel.specs.jmachine.Calls.{receiver};
-ghost use Rattle.jmodel.specs.ProofNames.{object_init as object_row};
-ghost use Rattle.jmodel.specs.jmachine.Throwables.{init as init_row, message as message_row};
-ghost use Rattle.jmodel.specs.jmachine.Store.{Store};
-ghost use Rattle.jmodel.specs.jstate.Celled.{StayCelled};
-ghost use Rattle.jmodel.specs.jstate.Seen.{AreBuilt};
+ghost use Rattle.jvalues.specs.declared.jops.value.Value.{Value as Held};
+ghost use Rattle.jsemantics.specs.jmachine.CallTargets.{receiver};
+ghost use Rattle.jsemantics.specs.ProofNames.{object_init as object_row};
+ghost use Rattle.jsemantics.specs.jmachine.Throwables.{init as init_row, message as message_row};
+ghost use Rattle.jsemantics.specs.jmachine.Store.{Store};
+ghost use Rattle.jruntime.specs.jstate.ObjectCells.{StayCelled};
+ghost use Rattle.jruntime.specs.jstate.HeapMeanings.{AreBuilt};
 ghost use Rattle.jrows.specs.jtexts.Messages.{CanBeTold};
-ghost use Rattle.jrows.specs.jtexts.Rans.{Comes, leaves};
-ghost use Rattle.jlibcalls.specs.jlibrary.Ran.{Does};
+ghost use Rattle.jrows.specs.jtexts.TextCallOutcomes.{Comes, leaves};
+ghost use Rattle.jlibcalls.specs.jlibrary.LibraryOutcomes.{Does};
 
 use crate::jlibrary::taken::{one, two};
-use jheap::Heap;
 use jlib::ThrownInit;
-use jmodel::jstate::{Frames, Shapes};
+use jmemory::jheap::Heap;
 use jrows::jtexts::{Ran, init, init_message, message, object_init};
+use jruntime::jstate::{Frames, Shapes};
 
 /// The constructor of Object.
 #[inline]

@@ -1,13 +1,13 @@
 ghost use Rattle.std.specs.Prelude.{◌≡◌, is_some, true};
-ghost use Rattle.jheap.specs.Heaps.{cells_at, object_at};
-ghost use Rattle.jmodel.specs.jstate.Seen.{first, number_in};
-ghost use Rattle.jlibcalls.specs.jthreading.Finding.{thread_in};
+ghost use Rattle.jmemory.specs.jheap.Heaps.{cells_at, object_at};
+ghost use Rattle.jruntime.specs.jstate.HeapMeanings.{first, number_in};
+ghost use Rattle.jlibcalls.specs.jthreading.ThreadObjects.{thread_in};
 
-use jground::jops::Value;
-use jheap::{CellType, Heap, Kind};
 use jlib::LibClass;
-use jmodel::jstate::class_numbered;
-use jprogram::ClassRef;
+use jmemory::jheap::{CellType, Heap, Kind};
+use jresolution::jprogram::ClassRef;
+use jruntime::jstate::class_numbered;
+use jvalues::jops::Value;
 
 /// The number in the first cell of an object that is there, 0 where it has none.
 fn first_cell(heap: &Heap, o: u32) -> u64

@@ -1,6 +1,6 @@
-ghost use Rattle.jlibcalls.specs.jthreading.Laws.{InitAsks, InitAsksNothing, InitIsStuck, OthersAskNothing};
+ghost use Rattle.jlibcalls.specs.jthreading.ThreadLaws.{InitAsks, InitAsksNothing, InitIsStuck, OthersAskNothing};
 
-use jmodel::jstate::heap_laws;
+use jruntime::jstate::heap_laws;
 
 /// The laws of calls of Thread: its constructor asks what the thread inherits, with the context that it is given; with other operands it
 /// asks nothing, and there is no step; and the other calls ask nothing. It does nothing; its contract is the laws.

@@ -1,26 +1,26 @@
 ghost use Rattle.std.specs.Prelude.{◌≡◌, ◌+◌, ◌≤◌, ℕ, OnOk, Option, Some, option_map};
 ghost use Rattle.jlib.specs.declared.side.Side.TheVariants as sides;
-ghost use Rattle.jground.specs.declared.jops.value.Value.TheVariants.{Ref};
-ghost use Rattle.jmodel.specs.jstate.Celled.{AreCelled, StayCelled};
-ghost use Rattle.jmodel.specs.jstate.Seen.{AreBuilt};
-ghost use Rattle.jmodel.specs.jguests.Guested.{AreGuests, HaveStayed, Lives};
-ghost use Rattle.jlibcalls.specs.jthreading.Finding;
-ghost use Rattle.jlibcalls.specs.jthreading.Making.{MakesThread, Named, NamedBehind, NamesNoMore};
-ghost use Rattle.jlibcalls.specs.jthreading.Switching.{behind, gone};
-ghost use Rattle.jlibcalls.specs.jthreading.Threading.{MayCall};
+ghost use Rattle.jvalues.specs.declared.jops.value.Value.TheVariants.{Ref};
+ghost use Rattle.jruntime.specs.jstate.ObjectCells.{AreCelled, StayCelled};
+ghost use Rattle.jruntime.specs.jstate.HeapMeanings.{AreBuilt};
+ghost use Rattle.jruntime.specs.jguests.GuestThreads.{AreGuests, HaveStayed, Lives};
+ghost use Rattle.jlibcalls.specs.jthreading.ThreadObjects;
+ghost use Rattle.jlibcalls.specs.jthreading.ThreadConstructors.{MakesThread, Named, NamedBehind, NamesNoMore};
+ghost use Rattle.jlibcalls.specs.jthreading.ThreadFrames.{behind, gone};
+ghost use Rattle.jlibcalls.specs.jthreading.ThreadMethods.{MayCall};
 
 use crate::jthreading::switching::{go_on, operand_at};
-use jground::jops::Value;
-use jheap::{Heap, Kind};
 use jlib::{LibClass, Side};
-use jmodel::jguests::{Guests, guest_laws};
-use jmodel::jstate::{Shapes, built_laws, celled_laws, class_numbered, heap_laws};
-use jprogram::ClassRef;
+use jmemory::jheap::{Heap, Kind};
+use jresolution::jprogram::ClassRef;
+use jruntime::jguests::{Guests, guest_laws};
+use jruntime::jstate::{Shapes, built_laws, celled_laws, class_numbered, heap_laws};
+use jvalues::jops::Value;
 use std::alloc::{AllocError, Global};
 
 /// The number of an object that is one of Thread.
 fn thread_object(heap: &Heap, value: Value) -> Option<u32>
-    ensures { result ≡ Finding.thread_object heap.now value }
+    ensures { result ≡ ThreadObjects.thread_object heap.now value }
 {
     let Value::Ref(o) = value else {
         return None;
@@ -65,7 +65,7 @@ fn named_behind<M: Copy>(guests: &Guests<M>, heap: &Heap, first: usize) -> Optio
 }
 
 /// What the constructor is given on the source side, where no contexts are handed on.
-#[tactic(auto, using(crate::proofs::JthreadingProofs::Made::may_less, crate::proofs::JthreadingProofs::Operands::alone_nobody))]
+#[tactic(auto, using(crate::proofs::JthreadingProofs::ThreadCreation::may_less, crate::proofs::JthreadingProofs::Operands::alone_nobody))]
 fn named_alone<M: Copy>(guests: &Guests<M>, heap: &Heap, count: usize) -> Option<Given>
     requires may { MayCall count guests.now }
     ensures { Named sides.Source count guests.now heap.now result }
@@ -81,7 +81,7 @@ fn named_alone<M: Copy>(guests: &Guests<M>, heap: &Heap, count: usize) -> Option
 }
 
 /// What it is given on the passing side, with a context.
-#[tactic(auto, using(crate::proofs::JthreadingProofs::Made::may_less, crate::proofs::JthreadingProofs::Operands::within_nobody))]
+#[tactic(auto, using(crate::proofs::JthreadingProofs::ThreadCreation::may_less, crate::proofs::JthreadingProofs::Operands::within_nobody))]
 fn named_within<M: Copy>(guests: &Guests<M>, heap: &Heap, count: usize) -> Option<Given>
     requires may { MayCall count guests.now }
     ensures { Named sides.Passing count guests.now heap.now result }
@@ -124,7 +124,7 @@ pub fn make<M: Copy>(
 ) -> Result<(), AllocError>
     requires are { AreGuests guests.old }
     requires may { MayCall count guests.old }
-    requires thread { Finding.thread_object heap.old (Ref new.begun.thread) ≡ Some new.begun.thread }
+    requires thread { ThreadObjects.thread_object heap.old (Ref new.begun.thread) ≡ Some new.begun.thread }
     requires built { AreBuilt heap.old.objects }
     requires celled { AreCelled shapes.now heap.old.objects }
     ensures row { OnOk result (MakesThread kept count new guests.old heap.old guests.new heap.new) }

@@ -1,17 +1,17 @@
 ghost use Rattle.std.specs.Prelude.{◌+◌, ◌≡◌, IfOk, OnOk, Some};
 ghost use Rattle.jlib.specs.declared.calls.ThreadCall.TheVariants as calls;
-ghost use Rattle.jmodel.specs.jguests.Guested.{AreGuests, Lives};
-ghost use Rattle.jlibcalls.specs.jthreading.Lasting.{LivesOn, StayBehind, StaysFramed};
-ghost use Rattle.jlibcalls.specs.jthreading.Threading.{CallsThread, MayCall};
-ghost use Rattle.jlibcalls.specs.jthreading.Switching.{OperandIs, Shrunk, WentOn};
+ghost use Rattle.jruntime.specs.jguests.GuestThreads.{AreGuests, Lives};
+ghost use Rattle.jlibcalls.specs.jthreading.ThreadEffects.{LivesOn, StayBehind, StaysFramed};
+ghost use Rattle.jlibcalls.specs.jthreading.ThreadMethods.{CallsThread, MayCall};
+ghost use Rattle.jlibcalls.specs.jthreading.ThreadFrames.{OperandIs, Shrunk, WentOn};
 
 use crate::jthreading::finding::thread_in;
-use jground::jops::Value;
-use jheap::Heap;
 use jlib::Thrown;
-use jmodel::jguests::{Guests, Turned, guest_laws};
-use jmodel::jstate::heap_laws;
+use jmemory::jheap::Heap;
+use jruntime::jguests::{Guests, Turned, guest_laws};
+use jruntime::jstate::heap_laws;
 use jthreads::Joined;
+use jvalues::jops::Value;
 use std::alloc::AllocError;
 
 /// What a call of Thread came to.
@@ -42,7 +42,7 @@ pub(crate) fn go_on<M: Copy>(guests: &mut Guests<M>, count: usize)
 }
 
 /// It loses its call's operands.
-fn lose<M: Copy>(guests: &mut Guests<M>, count: usize)
+fn lose_operands<M: Copy>(guests: &mut Guests<M>, count: usize)
     requires { MayCall count guests.old }
     ensures { Shrunk count guests.old guests.new }
 {
@@ -120,7 +120,7 @@ pub fn start<M: Copy>(
         return Ok(Threaded::Stuck);
     };
     if !guests.start(t) {
-        lose(guests, count);
+        lose_operands(guests, count);
         return Ok(Threaded::Raises(Thrown::IllegalThreadStateException));
     }
     go_on(guests, count);

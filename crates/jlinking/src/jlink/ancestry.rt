@@ -1,11 +1,11 @@
-ghost use Rattle.jlinking.specs.jlink.Standing.{below_object, chain, interfaces, itself};
+ghost use Rattle.jlinking.specs.jlink.ClassOrder.{below_object, chain, interfaces, itself};
 
 use crate::jlink::linked::LinkedProgram;
 use jtypes::{Ancestry, Name};
 
 impl Ancestry for LinkedProgram {
-    ghost use Rattle.jprogram.specs.Classes.{tree};
-    ghost use Rattle.jlinking.specs.jlink.Links.{Links};
+    ghost use Rattle.jresolution.specs.jprogram.ProgramClasses.{tree};
+    ghost use Rattle.jlinking.specs.jlink.LinkedPrograms.{Links};
 
     ghost tree = { tree };
 

@@ -1,7 +1,7 @@
 ghost use Rattle.std.specs.Prelude.{◌≡◌};
 ghost use Rattle.jlinking.specs.declared.jlink.error.LinkError.TheVariants.{Memory};
 
-use jprogram::LinkFault;
+use jresolution::jprogram::LinkFault;
 use std::alloc::AllocError;
 
 /// Why parts make no program that links.

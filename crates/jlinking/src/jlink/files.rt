@@ -1,4 +1,4 @@
-ghost use Rattle.jlinking.specs.jlink.Coded.{AreFiles};
+ghost use Rattle.jlinking.specs.jlink.ProgramFiles.{AreFiles};
 
 use crate::jlink::linked::LinkedProgram;
 

@@ -1,24 +1,24 @@
 ghost use Rattle.std.specs.Prelude.{◌≡◌, ◌<◌, ℕ, [], Some, length, slice_get};
 ghost use Rattle.std.specs.Option.{IsSome};
 ghost use Rattle.jclass.specs.declared.class.CodeBody.{CodeBody};
-ghost use Rattle.jprogram.specs.declared.member.CallKind.{CallKind};
-ghost use Rattle.jprogram.specs.declared.member.ClassId.{ClassId};
-ghost use Rattle.jprogram.specs.declared.member.Member.{Member};
-ghost use Rattle.jprogram.specs.declared.member.MethodId.{MethodId};
-ghost use Rattle.jprogram.specs.declared.part.CodePart.{CodePart};
-ghost use Rattle.jprogram.specs.Classes.{Program};
-ghost use Rattle.jprogram.specs.Members.{select};
-ghost use Rattle.jprogram.specs.Parts.{this_name};
+ghost use Rattle.jresolution.specs.declared.jprogram.member.CallKind.{CallKind};
+ghost use Rattle.jresolution.specs.declared.jprogram.member.ClassId.{ClassId};
+ghost use Rattle.jresolution.specs.declared.jprogram.member.Member.{Member};
+ghost use Rattle.jresolution.specs.declared.jprogram.member.MethodId.{MethodId};
+ghost use Rattle.jresolution.specs.declared.jprogram.part.CodePart.{CodePart};
+ghost use Rattle.jresolution.specs.jprogram.ProgramClasses.{Program};
+ghost use Rattle.jresolution.specs.jprogram.MemberResolution.{select};
+ghost use Rattle.jresolution.specs.jprogram.ClassFileParts.{this_name};
 ghost use Rattle.jparts.specs.declared.jcode.names.FieldOp.{FieldOp};
-ghost use Rattle.jmeaning.specs.juses.Instructions.{Instruction, Used, code_at, instruction_at};
-ghost use Rattle.jmeaning.specs.juses.Meanings as meanings;
-ghost use Rattle.jmeaning.specs.declared.juses.meaning.How.{How};
-ghost use Rattle.jmeaning.specs.juses.Meanings.{CallMeaning, FieldMeaning};
-ghost use Rattle.jlinking.specs.jlink.Called.{IsNamedCall};
-ghost use Rattle.jlinking.specs.jlink.Coded.{AreFiles, LeadsWithin};
-ghost use Rattle.jlinking.specs.jlink.Fields.{IsNamedField};
-ghost use Rattle.jlinking.specs.jlink.Links.{Links};
-ghost use Rattle.jlinking.specs.jlink.Selecting.{IsSelectedAs};
+ghost use Rattle.jresolution.specs.juses.IndexedInstructions.{Instruction, Used, code_at, instruction_at};
+ghost use Rattle.jresolution.specs.juses.InstructionMeanings as meanings;
+ghost use Rattle.jresolution.specs.declared.juses.meaning.InvokeKind.{InvokeKind};
+ghost use Rattle.jresolution.specs.juses.InstructionMeanings.{CallMeaning, FieldMeaning};
+ghost use Rattle.jlinking.specs.jlink.NamedCalls.{IsNamedCall};
+ghost use Rattle.jlinking.specs.jlink.ProgramFiles.{AreFiles, LeadsWithin};
+ghost use Rattle.jlinking.specs.jlink.NamedFields.{IsNamedField};
+ghost use Rattle.jlinking.specs.jlink.LinkedPrograms.{Links};
+ghost use Rattle.jlinking.specs.jlink.SelectedMethods.{IsSelectedAs};
 
 /// The law of selection: the method that is selected where another one is called has its name and its descriptor (JVMS 5.4.6).
 pub fn selection_law()
@@ -45,7 +45,7 @@ pub fn field_law()
 /// The law of calls, in a program that links: an instruction that doesn't call a constructor names none, and where it calls one of the
 /// library's, this is that of the class by which it is named (JVMS 5.4.3.3, 6.5: invokespecial).
 pub fn call_law()
-    ensures { (p : Program) (m : MethodId) (i : ℕ) (by : How) (c : CallMeaning) → Links p → instruction_at p m i ≡ Some (Used (meanings.Call by c))
+    ensures { (p : Program) (m : MethodId) (i : ℕ) (by : InvokeKind) (c : CallMeaning) → Links p → instruction_at p m i ≡ Some (Used (meanings.Call by c))
         → IsNamedCall p by c }
 {}
 

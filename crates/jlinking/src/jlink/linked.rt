@@ -1,21 +1,21 @@
 ghost use Rattle.std.specs.Prelude.{◌≡◌, IfErr, IfOk, MatchBool, MatchResult, None, Some, option_map};
-ghost use Rattle.jprogram.specs.Classes;
-ghost use Rattle.jprogram.specs.Classes.{program};
-ghost use Rattle.jprogram.specs.Members;
-ghost use Rattle.jlinking.specs.jlink.Links;
-ghost use Rattle.jlinking.specs.jlink.Links.{AreParts, LinkErrorIs, Links};
-ghost use Rattle.jlinking.specs.jlink.Referred.{IsReferred};
-ghost use Rattle.jprogram.specs.declared.part.ClassRef.TheVariants as refs;
-ghost use Rattle.jprogram.specs.Implementing.{AreInterfaces};
-ghost use Rattle.jmeaning.specs.juses.Uses.{AreUses};
+ghost use Rattle.jresolution.specs.jprogram.ProgramClasses;
+ghost use Rattle.jresolution.specs.jprogram.ProgramClasses.{program};
+ghost use Rattle.jresolution.specs.jprogram.MemberResolution;
+ghost use Rattle.jlinking.specs.jlink.LinkedPrograms;
+ghost use Rattle.jlinking.specs.jlink.LinkedPrograms.{AreParts, LinkErrorIs, Links};
+ghost use Rattle.jlinking.specs.jlink.CodeReferences.{IsReferred};
+ghost use Rattle.jresolution.specs.declared.jprogram.part.ClassRef.TheVariants as refs;
+ghost use Rattle.jresolution.specs.jprogram.ImplementedInterfaces.{AreInterfaces};
+ghost use Rattle.jresolution.specs.juses.EntryUses.{AreUses};
 
 use crate::jlink::error::LinkError;
 use crate::jlink::phases::link_fault;
 use jlib::Side;
-use jmeaning::juses::Uses;
-use jprogram::{
+use jresolution::jprogram::{
     CallKind, ClassId, ClassRef, CodePart, Interfaces, Member, MethodId, NamedProgram, Selected,
 };
+use jresolution::juses::Uses;
 use jtypes::Name;
 use std::alloc::{AllocError, AllocFailed, Global};
 use std::marker::Model;
@@ -32,10 +32,10 @@ pub struct LinkedProgram {
 }
 
 impl Model for LinkedProgram {
-    ghost use Rattle.jprogram.specs.Classes.{Program};
-    ghost use Rattle.jlinking.specs.jlink.Links.{Links};
-    ghost use Rattle.jprogram.specs.Implementing.{AreInterfaces};
-    ghost use Rattle.jmeaning.specs.juses.Uses.{AreUses};
+    ghost use Rattle.jresolution.specs.jprogram.ProgramClasses.{Program};
+    ghost use Rattle.jlinking.specs.jlink.LinkedPrograms.{Links};
+    ghost use Rattle.jresolution.specs.jprogram.ImplementedInterfaces.{AreInterfaces};
+    ghost use Rattle.jresolution.specs.juses.EntryUses.{AreUses};
 
     ghost Value = { Program };
 
@@ -44,9 +44,9 @@ impl Model for LinkedProgram {
     ghost invariant = { λ p. Links p.program × (AreInterfaces p.program p.interfaces × AreUses p.program p.uses) };
 }
 
-#[tactic(auto, unfolding(crate::specs::jlink::Links::domains_rise))]
+#[tactic(auto, unfolding(crate::specs::jlink::LinkedPrograms::domains_rise))]
 fn domains_rise(parts: &[CodePart]) -> bool
-    ensures { result ≡ Links.domains_rise 0 parts.now }
+    ensures { result ≡ LinkedPrograms.domains_rise 0 parts.now }
 {
     let mut least: u32 = 0;
     for part in parts {
@@ -72,9 +72,9 @@ pub fn are_parts(parts: &[CodePart]) -> bool
 }
 
 /// The table of what the entries of a program's pools stand for, where it links.
-#[tactic(auto, using(crate::proofs::JlinkProofs::Layered::linked_layered))]
+#[tactic(auto, using(crate::proofs::JlinkProofs::PhaseOrder::linked_layered))]
 fn uses_of(alloc: Global, program: &NamedProgram) -> Result<Uses, AllocError>
-    requires { Links.link_fault program.now ≡ None }
+    requires { LinkedPrograms.link_fault program.now ≡ None }
     ensures { IfOk result (λ uses. AreUses program.now uses) }
 {
     Uses::of(alloc, program)
@@ -82,7 +82,7 @@ fn uses_of(alloc: Global, program: &NamedProgram) -> Result<Uses, AllocError>
 
 /// The table of the interfaces that a program's classes implement, where it links.
 fn interfaces_of(alloc: Global, program: &NamedProgram) -> Result<Interfaces, AllocError>
-    requires { Links.link_fault program.now ≡ None }
+    requires { LinkedPrograms.link_fault program.now ≡ None }
     ensures { IfOk result (λ interfaces. AreInterfaces program.now interfaces) }
 {
     Interfaces::of(alloc, program)
@@ -90,7 +90,7 @@ fn interfaces_of(alloc: Global, program: &NamedProgram) -> Result<Interfaces, Al
 
 /// Both tables of a program that links.
 fn tables_of(alloc: Global, program: &NamedProgram) -> Result<(Interfaces, Uses), AllocError>
-    requires { Links.link_fault program.now ≡ None }
+    requires { LinkedPrograms.link_fault program.now ≡ None }
     ensures { IfOk result (λ t. AreInterfaces program.now t.0 × AreUses program.now t.1) }
 {
     let interfaces = interfaces_of(alloc, program)?;
@@ -101,7 +101,7 @@ fn tables_of(alloc: Global, program: &NamedProgram) -> Result<(Interfaces, Uses)
 /// A program in which no rule is broken. An error, which says that no memory was left, hands its parts back.
 fn linked(alloc: Global, program: NamedProgram) -> Result<LinkedProgram, AllocFailed<Vec<CodePart>>>
     requires parts { AreParts program.parts }
-    requires rules { Links.link_fault program ≡ None }
+    requires rules { LinkedPrograms.link_fault program ≡ None }
     ensures ok { IfOk result (λ p. p ≡ program) }
     ensures err { IfErr result (λ e. e.value.items ≡ program.parts) }
 {
@@ -143,8 +143,8 @@ pub fn link_or_return(
 ) -> Result<LinkedProgram, (Vec<CodePart>, LinkError)>
     requires { AreParts parts.items }
     ensures { MatchResult result
-        (λ p. (p ≡ program side parts.items) × (Links.link_fault p ≡ None))
-        (λ e. (e.0.items ≡ parts.items) × LinkErrorIs (Links.link_fault (program side parts.items)) e.1) }
+        (λ p. (p ≡ program side parts.items) × (LinkedPrograms.link_fault p ≡ None))
+        (λ e. (e.0.items ≡ parts.items) × LinkErrorIs (LinkedPrograms.link_fault (program side parts.items)) e.1) }
 {
     let program = match NamedProgram::of(alloc, parts, side) {
         Ok(program) => program,
@@ -164,8 +164,8 @@ pub fn link_or_return(
 pub fn link(alloc: Global, parts: Vec<CodePart>, side: Side) -> Result<LinkedProgram, LinkError>
     requires { AreParts parts.items }
     ensures { MatchResult result
-        (λ p. (p ≡ program side parts.items) × (Links.link_fault p ≡ None))
-        (LinkErrorIs (Links.link_fault (program side parts.items))) }
+        (λ p. (p ≡ program side parts.items) × (LinkedPrograms.link_fault p ≡ None))
+        (LinkErrorIs (LinkedPrograms.link_fault (program side parts.items))) }
 {
     match link_or_return(alloc, parts, side) {
         Ok(program) => Ok(program),
@@ -199,14 +199,14 @@ impl LinkedProgram {
 
     /// The number of the class of a name: a user's, or else one of the library.
     pub fn class_of(&self, name: &[u8]) -> Option<ClassRef>
-        ensures { result ≡ option_map Classes.ref_of (Classes.find self.now name.now) }
+        ensures { result ≡ option_map ProgramClasses.ref_of (ProgramClasses.find self.now name.now) }
     {
         self.program.class_of(name)
     }
 
     /// The name of the class of a number, empty where no part has it.
     pub fn name_of(&self, class: ClassRef) -> &[u8]
-        ensures { result.now ≡ Classes.name_at self.now class }
+        ensures { result.now ≡ ProgramClasses.name_at self.now class }
     {
         self.program.name_of(class)
     }
@@ -226,7 +226,7 @@ impl LinkedProgram {
     }
 
     fn member_at(&self, class: u32, pool: u16) -> Option<Member>
-        ensures member { result ≡ Members.resolved self.now class pool }
+        ensures member { result ≡ MemberResolution.resolved self.now class pool }
         ensures links { Links self.now }
     {
         self.uses.member_at(class, pool)
@@ -235,7 +235,7 @@ impl LinkedProgram {
     /// What the field or the method at an index of a part's pool stands for (JVMS 5.4.3), where an instruction of that class names it.
     pub fn resolve(&self, class: u32, pool: u16) -> Member
         requires { IsReferred self.now class pool }
-        ensures { Some result ≡ Members.resolved self.now class pool }
+        ensures { Some result ≡ MemberResolution.resolved self.now class pool }
     {
         match self.member_at(class, pool) {
             Some(member) => member,
@@ -244,14 +244,14 @@ impl LinkedProgram {
     }
 
     fn has_interface(&self, class: &[u8], interface: &[u8]) -> bool
-        ensures { result ≡ Classes.implements self.now class.now interface.now }
+        ensures { result ≡ ProgramClasses.implements self.now class.now interface.now }
     {
         self.program.implements(&self.interfaces, class, interface)
     }
 
     /// Whether an interface is one of the class at a place, or of a class above it, directly or through others. It takes no memory.
     pub fn implements(&self, class: u32, interface: &Name) -> bool
-        ensures { result ≡ Classes.implements self.now (Classes.name_at self.now (refs.User class)) interface.now.0 }
+        ensures { result ≡ ProgramClasses.implements self.now (ProgramClasses.name_at self.now (refs.User class)) interface.now.0 }
     {
         let name = self.name_of(ClassRef::User(class));
         self.has_interface(name, interface.0.as_slice())
@@ -259,14 +259,14 @@ impl LinkedProgram {
 
     /// The method that is selected where a method is called on a class (JVMS 5.4.6).
     pub fn select(&self, on: ClassId, method: Member, call: CallKind) -> Selected
-        ensures { result ≡ Members.select self.now on method call }
+        ensures { result ≡ MemberResolution.select self.now on method call }
     {
         self.program.select(on, method, call)
     }
 
     /// `main` of the class of a name: public and static, with code and the side's descriptor, declared in that very class.
     pub fn main_of(&self, name: &[u8]) -> Option<MethodId>
-        ensures { result ≡ Members.main_of self.now name.now }
+        ensures { result ≡ MemberResolution.main_of self.now name.now }
     {
         self.program.main_of(name)
     }

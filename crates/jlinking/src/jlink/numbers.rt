@@ -1,16 +1,16 @@
 ghost use Rattle.std.specs.Prelude.{◌≡◌, true};
-ghost use Rattle.jlib.specs.Classes as library;
-ghost use Rattle.jprogram.specs.Classes;
-ghost use Rattle.jprogram.specs.Classes.{name_at};
-ghost use Rattle.jprogram.specs.Implementing.{IsNumber};
-ghost use Rattle.jprogram.specs.Standing.{StandsInOrder};
+ghost use Rattle.jlib.specs.LibraryClasses as library;
+ghost use Rattle.jresolution.specs.jprogram.ProgramClasses;
+ghost use Rattle.jresolution.specs.jprogram.ProgramClasses.{name_at};
+ghost use Rattle.jresolution.specs.jprogram.ImplementedInterfaces.{IsNumber};
+ghost use Rattle.jresolution.specs.jprogram.OrderedPrograms.{StandsInOrder};
 
 use crate::jlink::linked::LinkedProgram;
 use jlib::{LibClass, Side};
-use jprogram::{ClassRef, NamedProgram};
+use jresolution::jprogram::{ClassRef, NamedProgram};
 
 /// Whether a side's library has a class, without the rest of its row. All but two stand on both sides.
-#[tactic(auto, using(crate::proofs::JlinkProofs::Numbered::thrown_stand, crate::proofs::JlinkProofs::Numbered::permissions_stand))]
+#[tactic(auto, using(crate::proofs::JlinkProofs::UserClassNumbers::thrown_stand, crate::proofs::JlinkProofs::UserClassNumbers::permissions_stand))]
 fn stands_on(class: LibClass, side: Side) -> bool
     ensures { result ≡ library.stands_on side class }
 {
@@ -60,7 +60,7 @@ impl LinkedProgram {
     /// Whether the class of the first number has the interface of the second, itself or by a class above it, directly or through others.
     /// Names are looked at only where a number is that of no class of the program. It takes no memory.
     pub fn implements_at(&self, class: ClassRef, interface: ClassRef) -> bool
-        ensures { result ≡ Classes.implements self.now (name_at self.now class) (name_at self.now interface) }
+        ensures { result ≡ ProgramClasses.implements self.now (name_at self.now class) (name_at self.now interface) }
     {
         let p = self.in_order();
         if self.is_known(class) {

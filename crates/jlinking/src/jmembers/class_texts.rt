@@ -1,12 +1,12 @@
 ghost use Rattle.std.specs.Prelude.{◌≡◌, IfOk};
-ghost use Rattle.jprogram.specs.Parts;
-ghost use Rattle.jlinking.specs.jmembers.Declares;
-ghost use Rattle.jlinking.specs.jmembers.Known.{declaring, marks_of, number_of};
+ghost use Rattle.jresolution.specs.jprogram.ClassFileParts;
+ghost use Rattle.jlinking.specs.jmembers.MemberDeclarations;
+ghost use Rattle.jlinking.specs.jmembers.PoolTexts.{declaring, marks_of, number_of};
 
 use crate::jmembers::descs::{DescMarks, desc_marks, marks_at};
 use crate::jmembers::numbers::Numbers;
 use jclass::{ClassParts, MemberInfo};
-use jprogram::{LinkKind, NamedProgram};
+use jresolution::jprogram::{LinkKind, NamedProgram};
 use std::alloc::{AllocError, Global};
 use std::marker::Model;
 
@@ -22,7 +22,7 @@ pub struct ClassTexts<'a> {
 
 impl<'a> Model for ClassTexts<'a> {
     ghost use Rattle.std.specs.Prelude.{◌≡◌};
-    ghost use Rattle.jlinking.specs.jmembers.Known.{Declaring, declaring, desc_marks};
+    ghost use Rattle.jlinking.specs.jmembers.PoolTexts.{Declaring, declaring, desc_marks};
 
     ghost Value = { Declaring };
 
@@ -76,14 +76,14 @@ impl<'a> ClassTexts<'a> {
 
     /// The number of the text at an index.
     pub fn number(&self, i: u16) -> usize
-        ensures { result ≡ number_of self.now.class.pool (Parts.text self.now.class.pool i) }
+        ensures { result ≡ number_of self.now.class.pool (ClassFileParts.text self.now.class.pool i) }
     {
         self.numbers.at(i)
     }
 
     /// What is known of a member's descriptor.
     pub fn marks_of(&self, member: &MemberInfo) -> DescMarks
-        ensures { result ≡ marks_of self.now.program (Parts.member_desc self.now.class member.now) }
+        ensures { result ≡ marks_of self.now.program (ClassFileParts.member_desc self.now.class member.now) }
     {
         marks_at(
             self.program,
@@ -94,9 +94,9 @@ impl<'a> ClassTexts<'a> {
     }
 
     /// NoClass where a member's descriptor names a class that isn't there, an array's by its elements.
-    #[tactic(auto, unfolding(crate::specs::jmembers::Declares::types_test))]
+    #[tactic(auto, unfolding(crate::specs::jmembers::MemberDeclarations::types_test))]
     pub fn types_test(&self, member: &MemberInfo) -> Option<LinkKind>
-        ensures { result ≡ Declares.types_test self.now.program self.now.class member.now }
+        ensures { result ≡ MemberDeclarations.types_test self.now.program self.now.class member.now }
     {
         if self.marks_of(member).missing {
             return Some(LinkKind::NoClass);

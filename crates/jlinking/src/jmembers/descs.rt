@@ -1,21 +1,21 @@
 ghost use Rattle.std.specs.Prelude.{◌≡◌, IfOk, Some, slice_get};
 ghost use Rattle.std.specs.List.{list_any};
-ghost use Rattle.jprogram.specs.Parts;
-ghost use Rattle.jprogram.specs.Supers;
-ghost use Rattle.jlinking.specs.jmembers.Declares;
+ghost use Rattle.jresolution.specs.jprogram.ClassFileParts;
+ghost use Rattle.jresolution.specs.jprogram.SuperChecks;
+ghost use Rattle.jlinking.specs.jmembers.MemberDeclarations;
 ghost use Rattle.jlinking.specs.ProofNames;
-ghost use Rattle.jlinking.specs.jmembers.Known;
-ghost use Rattle.jlinking.specs.jmembers.Known.{desc_marks, marks_in, marks_of};
+ghost use Rattle.jlinking.specs.jmembers.PoolTexts;
+ghost use Rattle.jlinking.specs.jmembers.PoolTexts.{desc_marks, marks_in, marks_of};
 
 use crate::jmembers::numbers::entry_text;
 use jparts::jpool::{DescError, Descriptor, Entry, FieldType, read_descriptor};
-use jprogram::{NamedProgram, is_context, is_floating};
+use jresolution::jprogram::{NamedProgram, is_context, is_floating};
 use std::alloc::{AllocError, Global};
 
 // ---- what is left out
 
 fn param_left_out(one: &FieldType) -> bool
-    ensures { result ≡ Declares.param_left_out one.now }
+    ensures { result ≡ MemberDeclarations.param_left_out one.now }
 {
     if is_floating(one) {
         return true;
@@ -24,13 +24,13 @@ fn param_left_out(one: &FieldType) -> bool
 }
 
 fn params_left_out(params: &[FieldType]) -> bool
-    ensures { result ≡ list_any Declares.param_left_out params.now }
+    ensures { result ≡ list_any MemberDeclarations.param_left_out params.now }
 {
     params.iter().any(|one| param_left_out(one))
 }
 
 fn type_left_out(one: &FieldType) -> bool
-    ensures { result ≡ Declares.type_left_out one.now }
+    ensures { result ≡ MemberDeclarations.type_left_out one.now }
 {
     is_floating(one) || is_context(one)
 }
@@ -46,7 +46,7 @@ fn return_left_out(ret: &Option<FieldType>) -> bool
 
 /// Whether a descriptor has a floating-point type, or a context elsewhere than as a parameter.
 fn desc_left_out(desc: &Descriptor) -> bool
-    ensures { result ≡ Declares.desc_left_out (Some desc.now) }
+    ensures { result ≡ MemberDeclarations.desc_left_out (Some desc.now) }
 {
     match desc {
         Descriptor::Field(one) => type_left_out(one),
@@ -59,7 +59,7 @@ fn desc_left_out(desc: &Descriptor) -> bool
 // ---- what is missing
 
 fn type_missing(program: &NamedProgram, one: &FieldType) -> bool
-    ensures { result ≡ Declares.type_missing program.now one.now }
+    ensures { result ≡ MemberDeclarations.type_missing program.now one.now }
 {
     if one.base != b'L' {
         return false;
@@ -68,7 +68,7 @@ fn type_missing(program: &NamedProgram, one: &FieldType) -> bool
 }
 
 fn params_missing(program: &NamedProgram, params: &[FieldType]) -> bool
-    ensures { result ≡ list_any (Declares.type_missing program.now) params.now }
+    ensures { result ≡ list_any (MemberDeclarations.type_missing program.now) params.now }
 {
     params.iter().any(|one| type_missing(program, one))
 }
@@ -84,7 +84,7 @@ fn return_missing(program: &NamedProgram, ret: &Option<FieldType>) -> bool
 
 /// Whether a descriptor names a class that isn't there.
 fn desc_missing(program: &NamedProgram, desc: &Descriptor) -> bool
-    ensures { result ≡ Declares.desc_missing program.now (Some desc.now) }
+    ensures { result ≡ MemberDeclarations.desc_missing program.now (Some desc.now) }
 {
     match desc {
         Descriptor::Field(one) => type_missing(program, one),
@@ -103,7 +103,7 @@ pub struct DescMarks {
     pub missing: bool,
 }
 
-#[tactic(auto, unfolding(crate::specs::jmembers::Declares::text_left_out, crate::specs::jmembers::Declares::text_missing))]
+#[tactic(auto, unfolding(crate::specs::jmembers::MemberDeclarations::text_left_out, crate::specs::jmembers::MemberDeclarations::text_missing))]
 fn marks_of(alloc: Global, program: &NamedProgram, text: &[u8]) -> Result<DescMarks, AllocError>
     ensures { IfOk result (λ m. m ≡ marks_of program.now text.now) }
 {
@@ -145,7 +145,7 @@ fn mark_at(marks: &[DescMarks], i: u16) -> Option<DescMarks>
 /// The marks of the text at an index.
 pub fn marks_at(program: &NamedProgram, entries: &[Entry], marks: &[DescMarks], i: u16) -> DescMarks
     requires { marks.now ≡ desc_marks program.now entries.now }
-    ensures { result ≡ marks_of program.now (Parts.text entries.now i) }
+    ensures { result ≡ marks_of program.now (ClassFileParts.text entries.now i) }
 {
     match mark_at(marks, i) {
         Some(found) => found,

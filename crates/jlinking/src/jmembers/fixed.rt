@@ -1,16 +1,18 @@
 ghost use Rattle.std.specs.Prelude.{◌≡◌};
 ghost use Rattle.std.specs.List.{list_any};
-ghost use Rattle.jlib.specs.Calls.{fixes};
-ghost use Rattle.jlib.specs.Classes.{open_classes};
-ghost use Rattle.jprogram.specs.Classes;
-ghost use Rattle.jlinking.specs.jmembers.Declares;
+ghost use Rattle.jlib.specs.LibraryMembers.{fixes};
+ghost use Rattle.jlib.specs.LibraryClasses.{open_classes};
+ghost use Rattle.jresolution.specs.jprogram.ProgramClasses;
+ghost use Rattle.jlinking.specs.jmembers.MemberDeclarations;
 ghost use Rattle.jlinking.specs.ProofNames;
 
 use crate::jmembers::class_texts::ClassTexts;
 use bitflags::Flags;
 use jclass::{Access, ClassParts, MemberInfo};
 use jlib::open_classes;
-use jprogram::{ClassRef, LinkKind, NamedProgram, member_desc, member_name, super_name};
+use jresolution::jprogram::{
+    ClassRef, LinkKind, NamedProgram, member_desc, member_name, super_name,
+};
 
 /// Whether an open class of the library has a concrete instance method of this name and descriptor.
 fn is_fixed_somewhere(name: &[u8], desc: &[u8]) -> bool
@@ -28,9 +30,9 @@ fn is_fixed_at(program: &NamedProgram, name: &[u8], desc: &[u8], class: &[u8]) -
     }
 }
 
-#[tactic(auto, using(jprogram::proofs::Chains::chain_at, jprogram::proofs::Chains::chain_end))]
+#[tactic(auto, using(jresolution::proofs::JprogramProofs::Chains::chain_at, jresolution::proofs::JprogramProofs::Chains::chain_end))]
 fn is_fixed_upwards(program: &NamedProgram, name: &[u8], desc: &[u8], from: &[u8]) -> bool
-    ensures { result ≡ list_any (ProofNames.is_fixed_at program.now name.now desc.now) (Classes.up program.now from.now) }
+    ensures { result ≡ list_any (ProofNames.is_fixed_at program.now name.now desc.now) (ProgramClasses.up program.now from.now) }
 {
     let mut at = from;
     let steps = program.most_steps();
@@ -48,7 +50,7 @@ fn is_fixed_upwards(program: &NamedProgram, name: &[u8], desc: &[u8], from: &[u8
 
 /// Whether the class may not declare a method of this name and descriptor, as it is the library's.
 fn is_fixed(program: &NamedProgram, class: &ClassParts, name: &[u8], desc: &[u8]) -> bool
-    ensures { result ≡ Declares.is_fixed program.now class.now name.now desc.now }
+    ensures { result ≡ MemberDeclarations.is_fixed program.now class.now name.now desc.now }
 {
     if !is_fixed_somewhere(name, desc) {
         return false;
@@ -65,9 +67,9 @@ fn is_fixed(program: &NamedProgram, class: &ClassParts, name: &[u8], desc: &[u8]
 impl<'a> ClassTexts<'a> {
     /// OverridesLibrary where a method has the name and the descriptor of a concrete instance method of an open class of the library
     /// that stands above its class, or for an interface's method of any open class.
-    #[tactic(auto, unfolding(crate::specs::jmembers::Declares::library_test))]
+    #[tactic(auto, unfolding(crate::specs::jmembers::MemberDeclarations::library_test))]
     pub fn library_test(&self, method: &MemberInfo) -> Option<LinkKind>
-        ensures { result ≡ Declares.library_test self.now.program self.now.class method.now }
+        ensures { result ≡ MemberDeclarations.library_test self.now.program self.now.class method.now }
     {
         let class = self.class();
         let name = member_name(class, method);

@@ -1,7 +1,7 @@
 ghost use Rattle.std.specs.Prelude.{◌≡◌, IfOk, OnOk, slice_get};
-ghost use Rattle.jprogram.specs.Names.{Notes, place_at};
-ghost use Rattle.jprogram.specs.Parts.{text};
-ghost use Rattle.jlinking.specs.jmembers.Known.{AreFirst, entry_text, number_of, numbers_of};
+ghost use Rattle.jresolution.specs.jprogram.NameTable.{Notes, place_at};
+ghost use Rattle.jresolution.specs.jprogram.ClassFileParts.{text};
+ghost use Rattle.jlinking.specs.jmembers.PoolTexts.{AreFirst, entry_text, number_of, numbers_of};
 
 use jparts::jpool::Entry;
 use std::alloc::{AllocError, Global};
@@ -97,7 +97,7 @@ pub struct Numbers<'a> {
 impl<'a> Model for Numbers<'a> {
     ghost use Rattle.std.specs.Prelude.{◌≡◌, [], List};
     ghost use Rattle.jparts.specs.declared.jpool.entry.Entry.{Entry};
-    ghost use Rattle.jlinking.specs.jmembers.Known.{number_of, numbers_of};
+    ghost use Rattle.jlinking.specs.jmembers.PoolTexts.{number_of, numbers_of};
 
     ghost Value = { List Entry };
 

@@ -1,12 +1,12 @@
 ghost use Rattle.std.specs.Prelude.{◌≡◌, ◌≤◌, ◌++◌, ◌∷◌, [], List, IfOk, length};
 ghost use Rattle.jclass.specs.declared.class.MemberInfo.{MemberInfo as Info};
-ghost use Rattle.jlinking.specs.jmembers.Declares;
+ghost use Rattle.jlinking.specs.jmembers.MemberDeclarations;
 ghost use Rattle.jlinking.specs.ProofNames;
-ghost use Rattle.jlinking.specs.jmembers.Met.{HasMet};
+ghost use Rattle.jlinking.specs.jmembers.MemberSets.{HasMet};
 
 use crate::jmembers::class_texts::ClassTexts;
 use jclass::{ClassFile, MemberInfo};
-use jprogram::{LinkFault, LinkKind, NamedProgram};
+use jresolution::jprogram::{LinkFault, LinkKind, NamedProgram};
 use std::alloc::{AllocError, Global};
 use std::collections::BTreeSet;
 
@@ -18,7 +18,7 @@ fn method_test(
     method: &MemberInfo,
 ) -> Result<Option<LinkKind>, AllocError>
     ensures { (before : List Info) → HasMet texts.now.class before met.old
-        → IfOk result (λ o. (o ≡ Declares.method_test texts.now.program texts.now.place texts.now.class before k method.now)
+        → IfOk result (λ o. (o ≡ MemberDeclarations.method_test texts.now.program texts.now.place texts.now.class before k method.now)
         × HasMet texts.now.class (before ++ method.now ∷ []) met.new) }
 {
     if let Some(kind) = texts.again_test(met, method)? {
@@ -43,7 +43,7 @@ fn field_test(
     field: &MemberInfo,
 ) -> Result<Option<LinkKind>, AllocError>
     ensures { (before : List Info) → HasMet texts.now.class before met.old
-        → IfOk result (λ o. (o ≡ Declares.field_test texts.now.program texts.now.class before field.now)
+        → IfOk result (λ o. (o ≡ MemberDeclarations.field_test texts.now.program texts.now.class before field.now)
         × HasMet texts.now.class (before ++ field.now ∷ []) met.new) }
 {
     if let Some(kind) = texts.again_test(met, field)? {
@@ -57,7 +57,7 @@ fn field_test(
 
 /// A fault of the member of a number.
 fn at_member(class: u32, member: u32, kind: Option<LinkKind>) -> Option<LinkFault>
-    ensures { result ≡ Declares.at_member class member kind }
+    ensures { result ≡ MemberDeclarations.at_member class member kind }
 {
     match kind {
         Some(kind) => Some(LinkFault {
@@ -77,8 +77,8 @@ fn method_fault(
     method: &MemberInfo,
 ) -> Result<Option<LinkFault>, AllocError>
     ensures { (before : List Info) → HasMet texts.now.class before met.old
-        → IfOk result (λ o. (o ≡ Declares.at_member texts.now.place k
-        (Declares.method_test texts.now.program texts.now.place texts.now.class before k method.now))
+        → IfOk result (λ o. (o ≡ MemberDeclarations.at_member texts.now.place k
+        (MemberDeclarations.method_test texts.now.program texts.now.place texts.now.class before k method.now))
         × HasMet texts.now.class (before ++ method.now ∷ []) met.new) }
 {
     let kind = method_test(alloc, texts, met, k, method)?;
@@ -92,18 +92,18 @@ fn field_fault(
     field: &MemberInfo,
 ) -> Result<Option<LinkFault>, AllocError>
     ensures { (before : List Info) → HasMet texts.now.class before met.old
-        → IfOk result (λ o. (o ≡ Declares.at_member texts.now.place member
-        (Declares.field_test texts.now.program texts.now.class before field.now))
+        → IfOk result (λ o. (o ≡ MemberDeclarations.at_member texts.now.place member
+        (MemberDeclarations.field_test texts.now.program texts.now.class before field.now))
         × HasMet texts.now.class (before ++ field.now ∷ []) met.new) }
 {
     let kind = field_test(texts, met, field)?;
     Ok(at_member(texts.place(), member, kind))
 }
 
-#[tactic(auto, unfolding(crate::specs::jmembers::Declares::methods_fault))]
+#[tactic(auto, unfolding(crate::specs::jmembers::MemberDeclarations::methods_fault))]
 fn methods_fault(alloc: Global, texts: &ClassTexts<'_>) -> Result<Option<LinkFault>, AllocError>
     requires { length texts.now.class.methods ≤ 0xffff }
-    ensures { IfOk result (λ o. o ≡ Declares.methods_fault texts.now.program texts.now.place texts.now.class) }
+    ensures { IfOk result (λ o. o ≡ MemberDeclarations.methods_fault texts.now.program texts.now.place texts.now.class) }
 {
     let mut met = BTreeSet::new(alloc);
     let methods = texts.class().methods.as_slice();
@@ -115,11 +115,11 @@ fn methods_fault(alloc: Global, texts: &ClassTexts<'_>) -> Result<Option<LinkFau
     Ok(None)
 }
 
-#[tactic(auto, unfolding(crate::specs::jmembers::Declares::fields_fault))]
+#[tactic(auto, unfolding(crate::specs::jmembers::MemberDeclarations::fields_fault))]
 fn fields_fault(alloc: Global, texts: &ClassTexts<'_>) -> Result<Option<LinkFault>, AllocError>
     requires methods { length texts.now.class.methods ≤ 0xffff }
     requires fields { length texts.now.class.fields ≤ 0xffff }
-    ensures { IfOk result (λ o. o ≡ Declares.fields_fault texts.now.program texts.now.place texts.now.class) }
+    ensures { IfOk result (λ o. o ≡ MemberDeclarations.fields_fault texts.now.program texts.now.place texts.now.class) }
 {
     let mut met = BTreeSet::new(alloc);
     let first = texts.class().methods.as_slice().len();
@@ -155,9 +155,9 @@ fn class_fault(
 /// - `NoClass`: its descriptor names a class that isn't there;
 /// - `OverridesLibrary`: the library doesn't let a class have such a method;
 /// - `FinalMethod`: it overrides a final method (JVMS 5.4.5).
-#[tactic(auto, unfolding(jground::specs::jbase::First::first_along, crate::specs::jmembers::Declares::members_fault))]
+#[tactic(auto, unfolding(jground::specs::jbase::FirstFaults::first_along, crate::specs::jmembers::MemberDeclarations::members_fault))]
 pub fn members_fault(alloc: Global, program: &NamedProgram) -> Result<Option<LinkFault>, AllocError>
-    ensures { IfOk result (λ o. o ≡ Declares.members_fault program.now) }
+    ensures { IfOk result (λ o. o ≡ MemberDeclarations.members_fault program.now) }
 {
     let parts = program.parts();
     for (i, part) in parts.iter().enumerate() {

@@ -1,16 +1,16 @@
 ghost use Rattle.std.specs.Prelude.{◌≡◌, ◌||◌, [], ℕ, List, IfOk, OnOk};
-ghost use Rattle.jprogram.specs.Classes;
-ghost use Rattle.jprogram.specs.Digests.{IsKey};
-ghost use Rattle.jprogram.specs.Members;
-ghost use Rattle.jprogram.specs.Parts;
-ghost use Rattle.jprogram.specs.Shortly;
-ghost use Rattle.jlinking.specs.jmembers.Declares;
-ghost use Rattle.jlinking.specs.jmembers.Sealed.{Looks, bars, has, shows};
+ghost use Rattle.jresolution.specs.jprogram.ProgramClasses;
+ghost use Rattle.jresolution.specs.jprogram.MemberDigests.{IsKey};
+ghost use Rattle.jresolution.specs.jprogram.MemberResolution;
+ghost use Rattle.jresolution.specs.jprogram.ClassFileParts;
+ghost use Rattle.jresolution.specs.jprogram.OverrideChains;
+ghost use Rattle.jlinking.specs.jmembers.MemberDeclarations;
+ghost use Rattle.jlinking.specs.jmembers.FinalOverrides.{Looks, bars, has, shows};
 
 use crate::jmembers::class_texts::ClassTexts;
 use crate::jmembers::numbers::note;
 use jclass::MemberInfo;
-use jprogram::{
+use jresolution::jprogram::{
     Key, LinkKind, Member, MethodId, NamedProgram, Reach, key_of, member_desc, member_name,
     package_of, same_package, super_name,
 };
@@ -18,20 +18,20 @@ use std::alloc::{AllocError, Global};
 use std::collections::BTreeMap;
 
 fn is_shown(reach: Reach) -> bool
-    ensures { result ≡ Shortly.is_shown reach }
+    ensures { result ≡ OverrideChains.is_shown reach }
 {
     matches!(reach, Reach::Public | Reach::Protected)
 }
 
 fn is_private(reach: Reach) -> bool
-    ensures { result ≡ Members.is_private reach }
+    ensures { result ≡ MemberResolution.is_private reach }
 {
     matches!(reach, Reach::Private)
 }
 
 /// Whether a method is an instance method and isn't private.
 fn is_instance(program: &NamedProgram, method: Member) -> bool
-    ensures { result ≡ Shortly.is_instance program.now method }
+    ensures { result ≡ OverrideChains.is_instance program.now method }
 {
     if program.is_static(method) {
         return false;
@@ -41,20 +41,20 @@ fn is_instance(program: &NamedProgram, method: Member) -> bool
 
 /// Whether a method is a final instance method.
 fn is_sealed(program: &NamedProgram, method: Member) -> bool
-    ensures { result ≡ Declares.is_sealed program.now method }
+    ensures { result ≡ MemberDeclarations.is_sealed program.now method }
 {
     program.is_final(method) && !program.is_static(method)
 }
 
 /// Whether a method overrides one above it, where it is known in which packages those between are shown.
-#[tactic(auto, unfolding(jprogram::specs::Shortly::overrides_by))]
+#[tactic(auto, unfolding(jresolution::specs::jprogram::OverrideChains::overrides_by))]
 fn overrides(
     program: &NamedProgram,
     below: Member,
     shown: &BTreeMap<Vec<u8>, usize>,
     above: Member,
 ) -> bool
-    ensures { result ≡ Shortly.overrides_by program.now below (has shown.now (Parts.package_of (Members.owner_of program.now above))) above }
+    ensures { result ≡ OverrideChains.overrides_by program.now below (has shown.now (ClassFileParts.package_of (MemberResolution.owner_of program.now above))) above }
 {
     if !is_instance(program, below) {
         return false;
@@ -122,8 +122,8 @@ fn overrides_final(
     from: &[u8],
 ) -> Result<bool, AllocError>
     requires { IsKey key }
-    ensures { IfOk result (λ b. b ≡ Declares.overrides_final program.now below []
-        (Members.methods_along program.now key.entry.name.now key.entry.desc.now (Classes.up program.now from.now))) }
+    ensures { IfOk result (λ b. b ≡ MemberDeclarations.overrides_final program.now below []
+        (MemberResolution.methods_along program.now key.entry.name.now key.entry.desc.now (ProgramClasses.up program.now from.now))) }
 {
     let mut shown = BTreeMap::new(alloc);
     let mut at = program.at(from);
@@ -144,14 +144,14 @@ fn overrides_final(
 impl<'a> ClassTexts<'a> {
     /// FinalMethod where an instance method, constructors aside, overrides a final instance method of a class above. The method is told
     /// by its place too.
-    #[tactic(auto, unfolding(crate::specs::jmembers::Declares::final_test, crate::specs::jmembers::Declares::overrides_final))]
+    #[tactic(auto, unfolding(crate::specs::jmembers::MemberDeclarations::final_test, crate::specs::jmembers::MemberDeclarations::overrides_final))]
     pub fn final_test(
         &self,
         alloc: Global,
         k: u32,
         method: &MemberInfo,
     ) -> Result<Option<LinkKind>, AllocError>
-        ensures { IfOk result (λ o. o ≡ Declares.final_test self.now.program self.now.place self.now.class k method.now) }
+        ensures { IfOk result (λ o. o ≡ MemberDeclarations.final_test self.now.program self.now.place self.now.class k method.now) }
     {
         let class = self.class();
         let name = member_name(class, method);

@@ -3,15 +3,15 @@ ghost use Rattle.std.specs.List.{list_any};
 ghost use Rattle.std.specs.Ordering.{nat_cmp};
 ghost use Rattle.std.specs.BTreeMap as tree;
 ghost use Rattle.jparts.specs.jpool.Descriptors.{descriptor_of};
-ghost use Rattle.jprogram.specs.Parts.{text};
-ghost use Rattle.jlinking.specs.jreferring.Beginning;
-ghost use Rattle.jlinking.specs.jreferring.Known.{AreHanded};
-ghost use Rattle.jlinking.specs.jreferring.Names;
+ghost use Rattle.jresolution.specs.jprogram.ClassFileParts.{text};
+ghost use Rattle.jlinking.specs.jreferring.InitialFrames;
+ghost use Rattle.jlinking.specs.jreferring.PoolTextCache.{AreHanded};
+ghost use Rattle.jlinking.specs.jreferring.ClassNameAccess;
 
-use crate::jreferring::known::Home;
 use crate::jreferring::names::{descriptor_in, params_test};
+use crate::jreferring::use_cache::Home;
 use jclass::CodeAttribute;
-use jprogram::{LinkKind, NamedProgram, text_at};
+use jresolution::jprogram::{LinkKind, NamedProgram, text_at};
 use std::alloc::{AllocError, Global};
 use std::collections::BTreeMap;
 
@@ -21,7 +21,7 @@ fn text_test(
     from: &[u8],
     text: &[u8],
 ) -> Result<Option<LinkKind>, AllocError>
-    ensures { IfOk result (λ o. o ≡ Names.params_test program.now from.now (descriptor_of text.now)) }
+    ensures { IfOk result (λ o. o ≡ ClassNameAccess.params_test program.now from.now (descriptor_of text.now)) }
 {
     let desc = descriptor_in(alloc, text)?;
     Ok(params_test(program, from, &desc))
@@ -42,7 +42,7 @@ fn handed_at(
 ) -> Result<Option<LinkKind>, AllocError>
     requires { AreHanded home.program.now home.from.now home.pool.now handed.old }
     ensures value { IfOk result (λ o. o
-        ≡ Names.params_test home.entry.program.now home.entry.from.now (descriptor_of (text home.entry.pool.now i))) }
+        ≡ ClassNameAccess.params_test home.entry.program.now home.entry.from.now (descriptor_of (text home.entry.pool.now i))) }
     ensures kept { OnOk result (AreHanded home.entry.program.now home.entry.from.now home.entry.pool.now handed.new) }
 {
     if let Some(one) = handed_noted(handed, i) {
@@ -54,7 +54,7 @@ fn handed_at(
 }
 
 fn has_frames(attribute: &CodeAttribute) -> bool
-    ensures { result ≡ Beginning.has_frames attribute.now }
+    ensures { result ≡ InitialFrames.has_frames attribute.now }
 {
     match attribute {
         CodeAttribute::Maps { frames, .. } => 0 < frames.as_slice().len(),
@@ -63,14 +63,14 @@ fn has_frames(attribute: &CodeAttribute) -> bool
 }
 
 fn any_frames(attributes: &[CodeAttribute]) -> bool
-    ensures { result ≡ list_any Beginning.has_frames attributes.now }
+    ensures { result ≡ list_any InitialFrames.has_frames attributes.now }
 {
     attributes.iter().any(|one| has_frames(one))
 }
 
 /// The first fault of the frame that a method begins with, by the index of its descriptor and the attributes of its code. `handed` has what
 /// is noted of descriptors.
-#[tactic(auto, unfolding(crate::specs::jreferring::Beginning::first_frame_test))]
+#[tactic(auto, unfolding(crate::specs::jreferring::InitialFrames::first_frame_test))]
 pub fn first_frame_test(
     alloc: Global,
     home: Home<'_>,
@@ -80,7 +80,7 @@ pub fn first_frame_test(
 ) -> Result<Option<LinkKind>, AllocError>
     requires { AreHanded home.program.now home.from.now home.pool.now handed.old }
     ensures value { IfOk result (λ o. o
-        ≡ Beginning.first_frame_test home.entry.program.now home.entry.from.now (text home.entry.pool.now desc) attributes.now) }
+        ≡ InitialFrames.first_frame_test home.entry.program.now home.entry.from.now (text home.entry.pool.now desc) attributes.now) }
     ensures kept { OnOk result (AreHanded home.entry.program.now home.entry.from.now home.entry.pool.now handed.new) }
 {
     if !any_frames(attributes) {

@@ -1,25 +1,25 @@
 ghost use Rattle.std.specs.Prelude.{◌≡◌, ◌≤◌, IfOk, IsTrue, OnOk, length, option_and_then};
 ghost use Rattle.jclass.specs.Class.{class_file};
-ghost use Rattle.jprogram.specs.Layers.{IsLayered};
-ghost use Rattle.jprogram.specs.Parts;
-ghost use Rattle.jlinking.specs.jreferring.Code;
+ghost use Rattle.jresolution.specs.jprogram.InterfaceSearch.{IsLayered};
+ghost use Rattle.jresolution.specs.jprogram.ClassFileParts;
+ghost use Rattle.jlinking.specs.jreferring.CodeChecks;
 ghost use Rattle.jlinking.specs.ProofNames;
-ghost use Rattle.jlinking.specs.jreferring.Known.{AreHanded};
+ghost use Rattle.jlinking.specs.jreferring.PoolTextCache.{AreHanded};
 
 use crate::jreferring::beginning::first_frame_test;
 use crate::jreferring::entries::judge_pool;
 use crate::jreferring::judged::Judged;
-use crate::jreferring::known::Home;
 use crate::jreferring::units::{attributes_test, handlers_test, ops_test};
+use crate::jreferring::use_cache::Home;
 use jclass::{Attribute, ClassFile, CodeAttribute, MemberInfo};
 use jparts::jcode::{Handler, Placed};
-use jprogram::{LinkFault, LinkKind, NamedProgram, this_name};
+use jresolution::jprogram::{LinkFault, LinkKind, NamedProgram, this_name};
 use std::alloc::{AllocError, Global};
 use std::collections::BTreeMap;
 
 /// The first fault of a method's instructions, then of its handlers.
 fn units_test(table: &[Judged], ops: &[Placed], handlers: &[Handler]) -> Option<LinkKind>
-    ensures { result ≡ Code.units_test table.now ops.now handlers.now }
+    ensures { result ≡ CodeChecks.units_test table.now ops.now handlers.now }
 {
     if let Some(kind) = ops_test(table, ops) {
         return Some(kind);
@@ -38,7 +38,7 @@ fn frames_test(
 ) -> Result<Option<LinkKind>, AllocError>
     requires { AreHanded home.program.now home.from.now home.pool.now handed.old }
     ensures value { IfOk result (λ o. o
-        ≡ Code.frames_test home.entry.program.now home.entry.from.now (Parts.text home.entry.pool.now desc) table.now attributes.now) }
+        ≡ CodeChecks.frames_test home.entry.program.now home.entry.from.now (ClassFileParts.text home.entry.pool.now desc) table.now attributes.now) }
     ensures kept { OnOk result (AreHanded home.entry.program.now home.entry.from.now home.entry.pool.now handed.new) }
 {
     if let Some(kind) = first_frame_test(alloc, home, handed, desc, attributes)? {
@@ -48,7 +48,7 @@ fn frames_test(
 }
 
 /// The first fault of a method, None where it has no code.
-#[tactic(auto, unfolding(crate::specs::jreferring::Code::method_test, jprogram::specs::Parts::code_of, jground::specs::jbase::First::first_some))]
+#[tactic(auto, unfolding(crate::specs::jreferring::CodeChecks::method_test, jresolution::specs::jprogram::ClassFileParts::code_of, jground::specs::jbase::FirstFaults::first_some))]
 fn method_test(
     alloc: Global,
     home: Home<'_>,
@@ -58,7 +58,7 @@ fn method_test(
 ) -> Result<Option<LinkKind>, AllocError>
     requires { AreHanded home.program.now home.from.now home.pool.now handed.old }
     ensures value { IfOk result (λ o. o
-        ≡ Code.method_test home.entry.program.now home.entry.from.now home.entry.pool.now table.now method.now) }
+        ≡ CodeChecks.method_test home.entry.program.now home.entry.from.now home.entry.pool.now table.now method.now) }
     ensures kept { OnOk result (AreHanded home.entry.program.now home.entry.from.now home.entry.pool.now handed.new) }
 {
     for attribute in method.attributes.as_slice() {
@@ -79,7 +79,7 @@ fn method_test(
     Ok(None)
 }
 
-#[tactic(auto, unfolding(jground::specs::jbase::First::first_along))]
+#[tactic(auto, unfolding(jground::specs::jbase::FirstFaults::first_along))]
 fn methods_fault(
     alloc: Global,
     i: u32,
@@ -106,7 +106,7 @@ fn methods_fault(
 }
 
 /// The first fault of a class's methods.
-#[tactic(auto, unfolding(crate::specs::jreferring::Code::class_fault))]
+#[tactic(auto, unfolding(crate::specs::jreferring::CodeChecks::class_fault))]
 fn class_fault(
     alloc: Global,
     program: &NamedProgram,
@@ -114,7 +114,7 @@ fn class_fault(
     class: &ClassFile,
 ) -> Result<Option<LinkFault>, AllocError>
     requires { IsLayered program.now }
-    ensures { IfOk result (λ o. o ≡ Code.class_fault program.now i class.now) }
+    ensures { IfOk result (λ o. o ≡ CodeChecks.class_fault program.now i class.now) }
 {
     let parts = class.parts();
     let home = Home {
@@ -134,10 +134,10 @@ fn class_fault(
 ///
 /// No class or interface may stand among its own interfaces. Each entry of a class's pool is looked at once, and each descriptor of methods
 /// with frames; that takes a few bytes an entry.
-#[tactic(auto, unfolding(jground::specs::jbase::First::first_along, crate::specs::jreferring::Code::code_fault))]
+#[tactic(auto, unfolding(jground::specs::jbase::FirstFaults::first_along, crate::specs::jreferring::CodeChecks::code_fault))]
 pub fn code_fault(alloc: Global, program: &NamedProgram) -> Result<Option<LinkFault>, AllocError>
     requires { IsLayered program.now }
-    ensures { IfOk result (λ o. o ≡ Code.code_fault program.now) }
+    ensures { IfOk result (λ o. o ≡ CodeChecks.code_fault program.now) }
 {
     let parts = program.parts();
     for (i, part) in parts.iter().enumerate() {

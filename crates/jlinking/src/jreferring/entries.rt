@@ -1,19 +1,19 @@
 ghost use Rattle.std.specs.Prelude.{◌≡◌, [], None, IfOk, OnOk, map};
-ghost use Rattle.jprogram.specs.Layers.{IsLayered};
-ghost use Rattle.jprogram.specs.Parts;
-ghost use Rattle.jlinking.specs.jreferring.Entries;
-ghost use Rattle.jlinking.specs.jreferring.Known.{AreKnown};
-ghost use Rattle.jlinking.specs.jreferring.Looking;
-ghost use Rattle.jlinking.specs.jreferring.Operands.{class_use};
-ghost use Rattle.jlinking.specs.jreferring.References;
+ghost use Rattle.jresolution.specs.jprogram.InterfaceSearch.{IsLayered};
+ghost use Rattle.jresolution.specs.jprogram.ClassFileParts;
+ghost use Rattle.jlinking.specs.jreferring.PoolEntryMeanings;
+ghost use Rattle.jlinking.specs.jreferring.PoolTextCache.{AreKnown};
+ghost use Rattle.jlinking.specs.jreferring.MemberLookUp;
+ghost use Rattle.jlinking.specs.jreferring.ClassEntryUses.{class_use};
+ghost use Rattle.jlinking.specs.jreferring.ReferenceUses;
 
 use crate::jreferring::judged::{Judged, MemberUse, Sort};
-use crate::jreferring::known::{Home, Known, class_at, named_at, nothing, resolved};
 use crate::jreferring::references::{Texts, desc_use, member_use, owner_use};
+use crate::jreferring::use_cache::{Home, UseCache, class_at, named_at, nothing, resolved};
 use jclass::ClassParts;
-use jmeaning::juses::Indices;
 use jparts::jpool::Entry;
-use jprogram::{Member, NamedProgram, class_text, text_at, this_name};
+use jresolution::jprogram::{Member, NamedProgram, class_text, text_at, this_name};
+use jresolution::juses::Indices;
 use std::alloc::{AllocError, Global};
 
 /// What a reference that has these texts, and stands for this member, may be used for.
@@ -24,7 +24,7 @@ fn use_by_texts(
     member: Option<Member>,
     texts: Texts<'_>,
 ) -> Result<MemberUse, AllocError>
-    ensures { IfOk result (λ u. u ≡ References.member_use home.entry.program.now home.entry.from.now sort member
+    ensures { IfOk result (λ u. u ≡ ReferenceUses.member_use home.entry.program.now home.entry.from.now sort member
         texts.entry.owner.now texts.entry.name.now texts.entry.desc.now) }
 {
     let owner = owner_use(alloc, home.program, home.from, texts.owner)?;
@@ -39,7 +39,7 @@ fn nameless_use(
     sort: Sort,
     owner: &[u8],
 ) -> Result<MemberUse, AllocError>
-    ensures { IfOk result (λ u. u ≡ References.member_use home.entry.program.now home.entry.from.now sort None owner.now [] []) }
+    ensures { IfOk result (λ u. u ≡ ReferenceUses.member_use home.entry.program.now home.entry.from.now sort None owner.now [] []) }
 {
     let texts = Texts {
         owner,
@@ -50,7 +50,7 @@ fn nameless_use(
 }
 
 /// What a reference may be used for that has these texts.
-#[tactic(auto, unfolding(crate::specs::jreferring::Looking::named_use))]
+#[tactic(auto, unfolding(crate::specs::jreferring::MemberLookUp::named_use))]
 fn named_use(
     alloc: Global,
     home: Home<'_>,
@@ -59,14 +59,14 @@ fn named_use(
 ) -> Result<MemberUse, AllocError>
     requires { IsLayered home.program.now }
     ensures { IfOk result (λ u. u
-        ≡ Looking.named_use home.entry.program.now home.entry.from.now sort texts.entry.owner.now texts.entry.name.now texts.entry.desc.now) }
+        ≡ MemberLookUp.named_use home.entry.program.now home.entry.from.now sort texts.entry.owner.now texts.entry.name.now texts.entry.desc.now) }
 {
     let member = resolved(alloc, home.program, sort, texts)?;
     use_by_texts(alloc, home, sort, member, texts)
 }
 
 /// What a reference may be used for that isn't one to a Class entry and a NameAndType entry.
-#[tactic(auto, using(crate::proofs::JreferringProofs::Referring::reference_named, crate::proofs::JreferringProofs::Referring::reference_nameless))]
+#[tactic(auto, using(crate::proofs::JreferringProofs::IndexedReferences::reference_named, crate::proofs::JreferringProofs::IndexedReferences::reference_nameless))]
 fn odd_reference(
     alloc: Global,
     home: Home<'_>,
@@ -75,7 +75,7 @@ fn odd_reference(
     both: u16,
 ) -> Result<MemberUse, AllocError>
     requires { IsLayered home.program.now }
-    ensures { IfOk result (λ u. u ≡ Entries.reference home.entry.program.now home.entry.from.now home.entry.pool.now sort class both) }
+    ensures { IfOk result (λ u. u ≡ PoolEntryMeanings.reference home.entry.program.now home.entry.from.now home.entry.pool.now sort class both) }
 {
     let owner = class_text(home.pool, class);
     let Some((name, desc)) = home.pool.name_and_type(both) else {
@@ -90,18 +90,18 @@ fn odd_reference(
 }
 
 /// What a reference may be used for, by the indices of its class and of its name and type.
-#[tactic(auto, using(crate::proofs::JreferringProofs::Referring::reference_at))]
+#[tactic(auto, using(crate::proofs::JreferringProofs::IndexedReferences::reference_at))]
 fn reference(
     alloc: Global,
     home: Home<'_>,
-    known: &mut Known,
+    known: &mut UseCache,
     sort: Sort,
     class: u16,
     both: u16,
 ) -> Result<MemberUse, AllocError>
     requires layered { IsLayered home.program.now }
     requires known { AreKnown home.program.now home.from.now home.pool.now known.old }
-    ensures value { IfOk result (λ u. u ≡ Entries.reference home.entry.program.now home.entry.from.now home.entry.pool.now sort class both) }
+    ensures value { IfOk result (λ u. u ≡ PoolEntryMeanings.reference home.entry.program.now home.entry.from.now home.entry.pool.now sort class both) }
     ensures kept { OnOk result (AreKnown home.entry.program.now home.entry.from.now home.entry.pool.now known.new) }
 {
     let Some(at) = Indices::of(home.pool, class, both) else {
@@ -113,7 +113,7 @@ fn reference(
 fn member(
     alloc: Global,
     home: Home<'_>,
-    known: &mut Known,
+    known: &mut UseCache,
     sort: Sort,
     class: u16,
     both: u16,
@@ -121,17 +121,22 @@ fn member(
     requires layered { IsLayered home.program.now }
     requires known { AreKnown home.program.now home.from.now home.pool.now known.old }
     ensures value { IfOk result (λ j. j
-        ≡ Judged.Member (Entries.reference home.entry.program.now home.entry.from.now home.entry.pool.now sort class both)) }
+        ≡ Judged.Member (PoolEntryMeanings.reference home.entry.program.now home.entry.from.now home.entry.pool.now sort class both)) }
     ensures kept { OnOk result (AreKnown home.entry.program.now home.entry.from.now home.entry.pool.now known.new) }
 {
     let one = reference(alloc, home, known, sort, class, both)?;
     Ok(Judged::Member(one))
 }
 
-fn class(alloc: Global, home: Home<'_>, known: &mut Known, name: u16) -> Result<Judged, AllocError>
+fn class(
+    alloc: Global,
+    home: Home<'_>,
+    known: &mut UseCache,
+    name: u16,
+) -> Result<Judged, AllocError>
     requires { AreKnown home.program.now home.from.now home.pool.now known.old }
     ensures value { IfOk result (λ j. j
-        ≡ Judged.Class (class_use home.entry.program.now home.entry.from.now (Parts.text home.entry.pool.now name))) }
+        ≡ Judged.Class (class_use home.entry.program.now home.entry.from.now (ClassFileParts.text home.entry.pool.now name))) }
     ensures kept { OnOk result (AreKnown home.entry.program.now home.entry.from.now home.entry.pool.now known.new) }
 {
     let one = class_at(alloc, home, &mut known.classes, name)?;
@@ -139,16 +144,16 @@ fn class(alloc: Global, home: Home<'_>, known: &mut Known, name: u16) -> Result<
 }
 
 /// What an entry stands for.
-#[tactic(auto, unfolding(crate::specs::jreferring::Entries::judge))]
+#[tactic(auto, unfolding(crate::specs::jreferring::PoolEntryMeanings::judge))]
 fn judge(
     alloc: Global,
     home: Home<'_>,
-    known: &mut Known,
+    known: &mut UseCache,
     one: &Entry,
 ) -> Result<Judged, AllocError>
     requires layered { IsLayered home.program.now }
     requires known { AreKnown home.program.now home.from.now home.pool.now known.old }
-    ensures value { IfOk result (λ j. j ≡ Entries.judge home.entry.program.now home.entry.from.now home.entry.pool.now one.now) }
+    ensures value { IfOk result (λ j. j ≡ PoolEntryMeanings.judge home.entry.program.now home.entry.from.now home.entry.pool.now one.now) }
     ensures kept { OnOk result (AreKnown home.entry.program.now home.entry.from.now home.entry.pool.now known.new) }
 {
     match one {
@@ -167,7 +172,7 @@ fn judge(
 
 fn judge_all(alloc: Global, home: Home<'_>, entries: &[Entry]) -> Result<Vec<Judged>, AllocError>
     requires { IsLayered home.program.now }
-    ensures { IfOk result (λ table. table.items ≡ map (Entries.judge home.entry.program.now home.entry.from.now home.entry.pool.now) entries.now) }
+    ensures { IfOk result (λ table. table.items ≡ map (PoolEntryMeanings.judge home.entry.program.now home.entry.from.now home.entry.pool.now) entries.now) }
 {
     let mut known = nothing(alloc);
     let mut table = Vec::new(alloc);
@@ -186,7 +191,7 @@ pub fn judge_pool(
     class: &ClassParts,
 ) -> Result<Vec<Judged>, AllocError>
     requires { IsLayered program.now }
-    ensures { IfOk result (λ table. table.items ≡ Entries.judge_pool program.now class.now) }
+    ensures { IfOk result (λ table. table.items ≡ PoolEntryMeanings.judge_pool program.now class.now) }
 {
     let home = Home {
         program,

@@ -1,4 +1,4 @@
-use jprogram::LinkKind;
+use jresolution::jprogram::LinkKind;
 
 /// What an entry of a pool stands for, seen from the class that has it (JVMS 4.4).
 #[derive(Clone, Copy, Debug)]

@@ -1,12 +1,12 @@
 ghost use Rattle.std.specs.Prelude.{◌≡◌, IfOk};
-ghost use Rattle.jground.specs.jbase.First.{first_some};
+ghost use Rattle.jground.specs.jbase.FirstFaults.{first_some};
 ghost use Rattle.jparts.specs.jpool.Descriptors.{descriptor_of};
-ghost use Rattle.jprogram.specs.Supers;
-ghost use Rattle.jlinking.specs.jreferring.Names;
+ghost use Rattle.jresolution.specs.jprogram.SuperChecks;
+ghost use Rattle.jlinking.specs.jreferring.ClassNameAccess;
 
 use jground::jbase::Seq;
 use jparts::jpool::{DescError, Descriptor, FieldType, read_descriptor};
-use jprogram::{LinkKind, NamedProgram};
+use jresolution::jprogram::{LinkKind, NamedProgram};
 use std::alloc::{AllocError, Global};
 
 /// What a text says as a descriptor, None where it is none.
@@ -21,13 +21,13 @@ pub fn descriptor_in(alloc: Global, text: &[u8]) -> Result<Option<Descriptor>, A
 }
 
 pub fn is_array(one: &FieldType) -> bool
-    ensures { result ≡ Names.is_array one.now }
+    ensures { result ≡ ClassNameAccess.is_array one.now }
 {
     0 < one.depth
 }
 
 fn class_type(alloc: Global, name: &[u8]) -> Result<FieldType, AllocError>
-    ensures { IfOk result (λ t. t ≡ Names.class_type name.now) }
+    ensures { IfOk result (λ t. t ≡ ClassNameAccess.class_type name.now) }
 {
     let class = Seq::from_slice(alloc, name)?;
     Ok(FieldType {
@@ -38,7 +38,7 @@ fn class_type(alloc: Global, name: &[u8]) -> Result<FieldType, AllocError>
 }
 
 fn array_or(alloc: Global, name: &[u8], desc: Option<Descriptor>) -> Result<FieldType, AllocError>
-    ensures { IfOk result (λ t. t ≡ Names.array_or name.now desc) }
+    ensures { IfOk result (λ t. t ≡ ClassNameAccess.array_or name.now desc) }
 {
     match desc {
         Some(Descriptor::Field(one)) => {
@@ -52,24 +52,24 @@ fn array_or(alloc: Global, name: &[u8], desc: Option<Descriptor>) -> Result<Fiel
 }
 
 /// The type that a Class entry of this text stands for (JVMS 4.4.1).
-#[tactic(auto, unfolding(crate::specs::jreferring::Names::type_named))]
+#[tactic(auto, unfolding(crate::specs::jreferring::ClassNameAccess::type_named))]
 pub fn type_named(alloc: Global, text: &[u8]) -> Result<FieldType, AllocError>
-    ensures { IfOk result (λ t. t ≡ Names.type_named text.now) }
+    ensures { IfOk result (λ t. t ≡ ClassNameAccess.type_named text.now) }
 {
     let desc = descriptor_in(alloc, text)?;
     array_or(alloc, text, desc)
 }
 
 fn is_missing(program: &NamedProgram, name: &[u8]) -> bool
-    ensures { result ≡ Supers.is_missing program.now name.now }
+    ensures { result ≡ SuperChecks.is_missing program.now name.now }
 {
     program.class_of(name).is_none()
 }
 
 /// NoClass where no class has this name, and NotAccessible where the class `from` may not name it.
-#[tactic(auto, unfolding(crate::specs::jreferring::Names::class_test))]
+#[tactic(auto, unfolding(crate::specs::jreferring::ClassNameAccess::class_test))]
 fn class_test(program: &NamedProgram, from: &[u8], name: &[u8]) -> Option<LinkKind>
-    ensures { result ≡ Names.class_test program.now from.now name.now }
+    ensures { result ≡ ClassNameAccess.class_test program.now from.now name.now }
 {
     if is_missing(program, name) {
         return Some(LinkKind::NoClass);
@@ -81,9 +81,9 @@ fn class_test(program: &NamedProgram, from: &[u8], name: &[u8]) -> Option<LinkKi
 }
 
 /// The test of the class that a type names, an array's by its element.
-#[tactic(auto, unfolding(crate::specs::jreferring::Names::type_test))]
+#[tactic(auto, unfolding(crate::specs::jreferring::ClassNameAccess::type_test))]
 pub fn type_test(program: &NamedProgram, from: &[u8], one: &FieldType) -> Option<LinkKind>
-    ensures { result ≡ Names.type_test program.now from.now one.now }
+    ensures { result ≡ ClassNameAccess.type_test program.now from.now one.now }
 {
     if one.base != b'L' {
         return None;
@@ -91,9 +91,9 @@ pub fn type_test(program: &NamedProgram, from: &[u8], one: &FieldType) -> Option
     class_test(program, from, one.class.as_slice())
 }
 
-#[tactic(auto, unfolding(jground::specs::jbase::First::first_some))]
+#[tactic(auto, unfolding(jground::specs::jbase::FirstFaults::first_some))]
 fn types_test(program: &NamedProgram, from: &[u8], types: &[FieldType]) -> Option<LinkKind>
-    ensures { result ≡ first_some (Names.type_test program.now from.now) types.now }
+    ensures { result ≡ first_some (ClassNameAccess.type_test program.now from.now) types.now }
 {
     for one in types {
         if let Some(kind) = type_test(program, from, one) {
@@ -109,7 +109,7 @@ pub fn params_test(
     from: &[u8],
     desc: &Option<Descriptor>,
 ) -> Option<LinkKind>
-    ensures { result ≡ Names.params_test program.now from.now desc.now }
+    ensures { result ≡ ClassNameAccess.params_test program.now from.now desc.now }
 {
     match desc {
         Some(Descriptor::Method { params, .. }) => types_test(program, from, params.as_slice()),
@@ -118,7 +118,7 @@ pub fn params_test(
 }
 
 fn return_test(program: &NamedProgram, from: &[u8], ret: &Option<FieldType>) -> Option<LinkKind>
-    ensures { result ≡ Names.return_test program.now from.now ret.now }
+    ensures { result ≡ ClassNameAccess.return_test program.now from.now ret.now }
 {
     match ret {
         Some(one) => type_test(program, from, one),
@@ -128,7 +128,7 @@ fn return_test(program: &NamedProgram, from: &[u8], ret: &Option<FieldType>) -> 
 
 /// The first fault of the classes that a descriptor names, from left to right.
 pub fn desc_test(program: &NamedProgram, from: &[u8], desc: &Option<Descriptor>) -> Option<LinkKind>
-    ensures { result ≡ Names.desc_test program.now from.now desc.now }
+    ensures { result ≡ ClassNameAccess.desc_test program.now from.now desc.now }
 {
     match desc {
         Some(Descriptor::Field(one)) => type_test(program, from, one),

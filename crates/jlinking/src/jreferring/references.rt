@@ -1,14 +1,14 @@
 ghost use Rattle.std.specs.Prelude.{◌≡◌, IfOk, option_map};
 ghost use Rattle.std.specs.List.{list_any};
-ghost use Rattle.jground.specs.jbase.First.{or_else};
-ghost use Rattle.jprogram.specs.Members;
-ghost use Rattle.jlinking.specs.jreferring.References;
+ghost use Rattle.jground.specs.jbase.FirstFaults.{or_else};
+ghost use Rattle.jresolution.specs.jprogram.MemberResolution;
+ghost use Rattle.jlinking.specs.jreferring.ReferenceUses;
 ghost use Rattle.jlinking.specs.ProofNames;
 
 use crate::jreferring::judged::{DescUse, MemberFacts, MemberUse, OwnerUse, Sort};
 use crate::jreferring::names::{desc_test, descriptor_in, is_array, type_named, type_test};
 use jparts::jpool::{Descriptor, FieldType, method_slots};
-use jprogram::{LinkKind, Member, NamedProgram, Reach, is_context};
+use jresolution::jprogram::{LinkKind, Member, NamedProgram, Reach, is_context};
 use std::alloc::{AllocError, Global};
 
 /// The texts of a reference: the name of its class, its own name, and its descriptor.
@@ -31,25 +31,25 @@ const ENTER_DESC: &[u8] = b"(Lsps/Ctx;I)Lsps/Ctx;";
 
 /// Whether this is the one method that returns a context.
 fn is_enter(texts: Texts<'_>) -> bool
-    ensures { result ≡ References.is_enter texts.entry.owner.now texts.entry.name.now texts.entry.desc.now }
+    ensures { result ≡ ReferenceUses.is_enter texts.entry.owner.now texts.entry.name.now texts.entry.desc.now }
 {
     texts.owner == RT && texts.name == ENTER && texts.desc == ENTER_DESC
 }
 
 fn has_contexts(one: &FieldType) -> bool
-    ensures { result ≡ References.has_contexts one.now }
+    ensures { result ≡ ReferenceUses.has_contexts one.now }
 {
     is_array(one) && is_context(one)
 }
 
 fn take_contexts(params: &[FieldType]) -> bool
-    ensures { result ≡ list_any References.has_contexts params.now }
+    ensures { result ≡ list_any ReferenceUses.has_contexts params.now }
 {
     params.iter().any(|one| has_contexts(one))
 }
 
 fn gives_context(ret: &Option<FieldType>) -> bool
-    ensures { result ≡ References.gives_context ret.now }
+    ensures { result ≡ ReferenceUses.gives_context ret.now }
 {
     match ret {
         Some(one) => is_context(one),
@@ -59,7 +59,7 @@ fn gives_context(ret: &Option<FieldType>) -> bool
 
 /// Whether a descriptor has a context where none may stand.
 fn misplaces_context(enter: bool, desc: &Option<Descriptor>) -> bool
-    ensures { result ≡ References.misplaces_context enter desc.now }
+    ensures { result ≡ ReferenceUses.misplaces_context enter desc.now }
 {
     match desc {
         Some(Descriptor::Field(one)) => is_context(one),
@@ -79,7 +79,7 @@ fn is_of_interface(sort: Sort) -> bool
 }
 
 fn is_crossed(sort: Sort, interface: bool) -> bool
-    ensures { result ≡ References.is_crossed sort interface }
+    ensures { result ≡ ReferenceUses.is_crossed sort interface }
 {
     match sort {
         Sort::Field => false,
@@ -89,13 +89,13 @@ fn is_crossed(sort: Sort, interface: bool) -> bool
 }
 
 fn is_private(reach: Reach) -> bool
-    ensures { result ≡ Members.is_private reach }
+    ensures { result ≡ MemberResolution.is_private reach }
 {
     matches!(reach, Reach::Private)
 }
 
 fn facts_of(program: &NamedProgram, from: &[u8], member: Member) -> MemberFacts
-    ensures { result ≡ References.facts_of program.now from.now member }
+    ensures { result ≡ ReferenceUses.facts_of program.now from.now member }
 {
     MemberFacts {
         allowed: program.may_use(from, member),
@@ -106,7 +106,7 @@ fn facts_of(program: &NamedProgram, from: &[u8], member: Member) -> MemberFacts
 }
 
 fn facts_in(program: &NamedProgram, from: &[u8], member: Option<Member>) -> Option<MemberFacts>
-    ensures { result ≡ option_map (References.facts_of program.now from.now) member }
+    ensures { result ≡ option_map (ReferenceUses.facts_of program.now from.now) member }
 {
     match member {
         Some(member) => Some(facts_of(program, from, member)),
@@ -125,7 +125,7 @@ fn names_test(owner: &OwnerUse, desc: &DescUse) -> Option<LinkKind>
 
 /// Whether a reference is of an array, or has a context where none may stand.
 fn is_barred(owner: &OwnerUse, enter: bool, desc: &DescUse) -> bool
-    ensures { result ≡ References.is_barred_by owner.now enter desc.now }
+    ensures { result ≡ ReferenceUses.is_barred_by owner.now enter desc.now }
 {
     if owner.array {
         return true;
@@ -143,7 +143,7 @@ pub fn owner_use(
     from: &[u8],
     owner: &[u8],
 ) -> Result<OwnerUse, AllocError>
-    ensures { IfOk result (λ u. u ≡ References.owner_use program.now from.now owner.now) }
+    ensures { IfOk result (λ u. u ≡ ReferenceUses.owner_use program.now from.now owner.now) }
 {
     let one = type_named(alloc, owner)?;
     Ok(OwnerUse {
@@ -161,7 +161,7 @@ pub fn desc_use(
     from: &[u8],
     text: &[u8],
 ) -> Result<DescUse, AllocError>
-    ensures { IfOk result (λ u. u ≡ References.desc_use program.now from.now text.now) }
+    ensures { IfOk result (λ u. u ≡ ReferenceUses.desc_use program.now from.now text.now) }
 {
     let desc = descriptor_in(alloc, text)?;
     Ok(DescUse {
@@ -182,9 +182,9 @@ pub fn member_use(
     owner: OwnerUse,
     desc: DescUse,
 ) -> MemberUse
-    requires owner { owner ≡ References.owner_use program.now from.now texts.owner.now }
-    requires desc { desc ≡ References.desc_use program.now from.now texts.desc.now }
-    ensures { result ≡ References.member_use program.now from.now sort member texts.entry.owner.now texts.entry.name.now texts.entry.desc.now }
+    requires owner { owner ≡ ReferenceUses.owner_use program.now from.now texts.owner.now }
+    requires desc { desc ≡ ReferenceUses.desc_use program.now from.now texts.desc.now }
+    ensures { result ≡ ReferenceUses.member_use program.now from.now sort member texts.entry.owner.now texts.entry.name.now texts.entry.desc.now }
 {
     let enter = is_enter(texts);
     MemberUse {

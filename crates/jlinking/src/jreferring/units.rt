@@ -1,15 +1,15 @@
 ghost use Rattle.std.specs.Prelude.{◌≡◌, slice_get};
 ghost use Rattle.std.specs.List.{list_any};
-ghost use Rattle.jground.specs.jbase.First.{first_some};
-ghost use Rattle.jlinking.specs.jreferring.Units;
+ghost use Rattle.jground.specs.jbase.FirstFaults.{first_some};
+ghost use Rattle.jlinking.specs.jreferring.CodeUnits;
 ghost use Rattle.jlinking.specs.ProofNames;
 
 use crate::jreferring::judged::{ClassUse, Judged, MemberUse};
 use crate::jreferring::uses::{call_test, field_test, interface_test, new_test, operand_test};
 use jclass::CodeAttribute;
-use jparts::jcode::{ArrayForm, CallOp, FieldOp, Form, Handler, Placed, PoolForm, form_of};
+use jparts::jcode::{ArrayForm, CallOp, FieldOp, Handler, OpForm, Placed, PoolForm, form_of};
 use jparts::jmaps::{MapType, RawFrame};
-use jprogram::LinkKind;
+use jresolution::jprogram::LinkKind;
 
 // ---- entries by their use
 
@@ -20,7 +20,7 @@ fn entry_at(table: &[Judged], n: u16) -> Option<Judged>
 }
 
 fn class_at(table: &[Judged], n: u16) -> Option<ClassUse>
-    ensures { result ≡ Units.class_at table.now n }
+    ensures { result ≡ CodeUnits.class_at table.now n }
 {
     match entry_at(table, n) {
         Some(Judged::Class(class)) => Some(class),
@@ -29,7 +29,7 @@ fn class_at(table: &[Judged], n: u16) -> Option<ClassUse>
 }
 
 fn member_at(table: &[Judged], n: u16) -> Option<MemberUse>
-    ensures { result ≡ Units.member_at table.now n }
+    ensures { result ≡ CodeUnits.member_at table.now n }
 {
     match entry_at(table, n) {
         Some(Judged::Member(member)) => Some(member),
@@ -39,7 +39,7 @@ fn member_at(table: &[Judged], n: u16) -> Option<MemberUse>
 
 /// The test of ldc, which pushes an int or a string.
 fn constant_test(one: Option<Judged>) -> Option<LinkKind>
-    ensures { result ≡ Units.constant_test one }
+    ensures { result ≡ CodeUnits.constant_test one }
 {
     match one {
         Some(Judged::Constant) => None,
@@ -55,7 +55,7 @@ fn constant_test(one: Option<Judged>) -> Option<LinkKind>
 
 /// The test of ldc2_w, which pushes a long.
 fn long_test(one: Option<Judged>) -> Option<LinkKind>
-    ensures { result ≡ Units.long_test one }
+    ensures { result ≡ CodeUnits.long_test one }
 {
     match one {
         Some(Judged::LongConstant) => None,
@@ -66,7 +66,7 @@ fn long_test(one: Option<Judged>) -> Option<LinkKind>
 // ---- instructions
 
 fn operand_at(table: &[Judged], n: u16) -> Option<LinkKind>
-    ensures { result ≡ Units.operand_at table.now n }
+    ensures { result ≡ CodeUnits.operand_at table.now n }
 {
     match class_at(table, n) {
         Some(class) => operand_test(class),
@@ -111,7 +111,7 @@ fn interface_call_at(table: &[Judged], n: u16, count: u8) -> Option<LinkKind>
 }
 
 fn pool_test(table: &[Judged], form: PoolForm) -> Option<LinkKind>
-    ensures { result ≡ Units.pool_test table.now form }
+    ensures { result ≡ CodeUnits.pool_test table.now form }
 {
     match form {
         PoolForm::Constant(n) => constant_test(entry_at(table, n)),
@@ -125,21 +125,21 @@ fn pool_test(table: &[Judged], form: PoolForm) -> Option<LinkKind>
 }
 
 /// The test of an instruction.
-#[tactic(auto, unfolding(crate::specs::jreferring::Units::op_test))]
+#[tactic(auto, unfolding(crate::specs::jreferring::CodeUnits::op_test))]
 fn op_test(table: &[Judged], one: &Placed) -> Option<LinkKind>
-    ensures { result ≡ Units.op_test table.now one.now }
+    ensures { result ≡ CodeUnits.op_test table.now one.now }
 {
     match form_of(&one.op) {
-        Form::Pool(form) => pool_test(table, form),
-        Form::Array(ArrayForm::NewRef(n)) => operand_at(table, n),
+        OpForm::Pool(form) => pool_test(table, form),
+        OpForm::Array(ArrayForm::NewRef(n)) => operand_at(table, n),
         _ => None,
     }
 }
 
 /// The first fault of instructions.
-#[tactic(auto, unfolding(jground::specs::jbase::First::first_some))]
+#[tactic(auto, unfolding(jground::specs::jbase::FirstFaults::first_some))]
 pub fn ops_test(table: &[Judged], ops: &[Placed]) -> Option<LinkKind>
-    ensures { result ≡ first_some (Units.op_test table.now) ops.now }
+    ensures { result ≡ first_some (CodeUnits.op_test table.now) ops.now }
 {
     for one in ops {
         if let Some(kind) = op_test(table, one) {
@@ -151,9 +151,9 @@ pub fn ops_test(table: &[Judged], ops: &[Placed]) -> Option<LinkKind>
 
 // ---- handlers
 
-#[tactic(auto, unfolding(crate::specs::jreferring::Units::handler_test))]
+#[tactic(auto, unfolding(crate::specs::jreferring::CodeUnits::handler_test))]
 fn handler_test(table: &[Judged], handler: Handler) -> Option<LinkKind>
-    ensures { result ≡ Units.handler_test table.now handler }
+    ensures { result ≡ CodeUnits.handler_test table.now handler }
 {
     if handler.class == 0 {
         return None;
@@ -162,9 +162,9 @@ fn handler_test(table: &[Judged], handler: Handler) -> Option<LinkKind>
 }
 
 /// The first fault of handlers.
-#[tactic(auto, unfolding(jground::specs::jbase::First::first_some))]
+#[tactic(auto, unfolding(jground::specs::jbase::FirstFaults::first_some))]
 pub fn handlers_test(table: &[Judged], handlers: &[Handler]) -> Option<LinkKind>
-    ensures { result ≡ first_some (Units.handler_test table.now) handlers.now }
+    ensures { result ≡ first_some (CodeUnits.handler_test table.now) handlers.now }
 {
     for one in handlers {
         if let Some(kind) = handler_test(table, *one) {
@@ -177,7 +177,7 @@ pub fn handlers_test(table: &[Judged], handlers: &[Handler]) -> Option<LinkKind>
 // ---- frames
 
 fn item_names(table: &[Judged], item: MapType) -> Option<LinkKind>
-    ensures { result ≡ Units.item_names table.now item }
+    ensures { result ≡ CodeUnits.item_names table.now item }
 {
     let MapType::Object(n) = item else {
         return None;
@@ -188,9 +188,9 @@ fn item_names(table: &[Judged], item: MapType) -> Option<LinkKind>
     }
 }
 
-#[tactic(auto, unfolding(jground::specs::jbase::First::first_some))]
+#[tactic(auto, unfolding(jground::specs::jbase::FirstFaults::first_some))]
 fn items_names(table: &[Judged], items: &[MapType]) -> Option<LinkKind>
-    ensures { result ≡ first_some (Units.item_names table.now) items.now }
+    ensures { result ≡ first_some (CodeUnits.item_names table.now) items.now }
 {
     for one in items {
         if let Some(kind) = item_names(table, *one) {
@@ -201,7 +201,7 @@ fn items_names(table: &[Judged], items: &[MapType]) -> Option<LinkKind>
 }
 
 fn is_barred(table: &[Judged], item: MapType) -> bool
-    ensures { result ≡ Units.is_barred table.now item }
+    ensures { result ≡ CodeUnits.is_barred table.now item }
 {
     let MapType::Object(n) = item else {
         return false;
@@ -213,14 +213,14 @@ fn is_barred(table: &[Judged], item: MapType) -> bool
 }
 
 fn any_barred(table: &[Judged], items: &[MapType]) -> bool
-    ensures { result ≡ list_any (Units.is_barred table.now) items.now }
+    ensures { result ≡ list_any (CodeUnits.is_barred table.now) items.now }
 {
     items.iter().any(|one| is_barred(table, *one))
 }
 
-#[tactic(auto, unfolding(crate::specs::jreferring::Units::frame_test))]
+#[tactic(auto, unfolding(crate::specs::jreferring::CodeUnits::frame_test))]
 fn frame_test(table: &[Judged], frame: &RawFrame) -> Option<LinkKind>
-    ensures { result ≡ Units.frame_test table.now frame.now }
+    ensures { result ≡ CodeUnits.frame_test table.now frame.now }
 {
     let locals = frame.locals.as_slice();
     let stack = frame.stack.as_slice();
@@ -239,9 +239,9 @@ fn frame_test(table: &[Judged], frame: &RawFrame) -> Option<LinkKind>
     None
 }
 
-#[tactic(auto, unfolding(jground::specs::jbase::First::first_some))]
+#[tactic(auto, unfolding(jground::specs::jbase::FirstFaults::first_some))]
 fn frames_test(table: &[Judged], frames: &[RawFrame]) -> Option<LinkKind>
-    ensures { result ≡ first_some (Units.frame_test table.now) frames.now }
+    ensures { result ≡ first_some (CodeUnits.frame_test table.now) frames.now }
 {
     for one in frames {
         if let Some(kind) = frame_test(table, one) {
@@ -252,7 +252,7 @@ fn frames_test(table: &[Judged], frames: &[RawFrame]) -> Option<LinkKind>
 }
 
 fn attribute_test(table: &[Judged], attribute: &CodeAttribute) -> Option<LinkKind>
-    ensures { result ≡ Units.attribute_test table.now attribute.now }
+    ensures { result ≡ CodeUnits.attribute_test table.now attribute.now }
 {
     match attribute {
         CodeAttribute::Maps { frames, .. } => frames_test(table, frames.as_slice()),
@@ -261,9 +261,9 @@ fn attribute_test(table: &[Judged], attribute: &CodeAttribute) -> Option<LinkKin
 }
 
 /// The first fault of the frames among a code's attributes.
-#[tactic(auto, unfolding(jground::specs::jbase::First::first_some))]
+#[tactic(auto, unfolding(jground::specs::jbase::FirstFaults::first_some))]
 pub fn attributes_test(table: &[Judged], attributes: &[CodeAttribute]) -> Option<LinkKind>
-    ensures { result ≡ first_some (Units.attribute_test table.now) attributes.now }
+    ensures { result ≡ first_some (CodeUnits.attribute_test table.now) attributes.now }
 {
     for one in attributes {
         if let Some(kind) = attribute_test(table, one) {

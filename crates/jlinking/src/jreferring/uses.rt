@@ -1,17 +1,17 @@
 ghost use Rattle.std.specs.Prelude.{◌≡◌};
-ghost use Rattle.jlinking.specs.jreferring.Operands;
-ghost use Rattle.jlinking.specs.jreferring.References;
+ghost use Rattle.jlinking.specs.jreferring.ClassEntryUses;
+ghost use Rattle.jlinking.specs.jreferring.ReferenceUses;
 ghost use Rattle.jlinking.specs.ProofNames;
 
 use crate::jreferring::judged::{ClassUse, MemberFacts, MemberUse};
 use jparts::jcode::{CallOp, FieldOp};
-use jprogram::LinkKind;
+use jresolution::jprogram::LinkKind;
 
 // ---- Class entries
 
 /// The test of an operand, and of what a handler catches: the class may be named, and may stand there.
 pub fn operand_test(class: ClassUse) -> Option<LinkKind>
-    ensures { result ≡ Operands.operand_test class }
+    ensures { result ≡ ClassEntryUses.operand_test class }
 {
     if let Some(kind) = class.names {
         return Some(kind);
@@ -24,7 +24,7 @@ pub fn operand_test(class: ClassUse) -> Option<LinkKind>
 
 /// The test of what `new` makes.
 pub fn new_test(class: ClassUse) -> Option<LinkKind>
-    ensures { result ≡ Operands.new_test class }
+    ensures { result ≡ ClassEntryUses.new_test class }
 {
     if let Some(kind) = operand_test(class) {
         return Some(kind);
@@ -38,7 +38,7 @@ pub fn new_test(class: ClassUse) -> Option<LinkKind>
 // ---- references
 
 fn differs(a: bool, b: bool) -> bool
-    ensures { result ≡ References.differs a b }
+    ensures { result ≡ ReferenceUses.differs a b }
 {
     if a {
         return !b;
@@ -48,7 +48,7 @@ fn differs(a: bool, b: bool) -> bool
 
 /// NotAccessible where the class may not use the member, or where it puts a final field of another class.
 fn access_test(put: bool, member: MemberFacts) -> Option<LinkKind>
-    ensures { result ≡ References.access_test put member }
+    ensures { result ≡ ReferenceUses.access_test put member }
 {
     if !member.allowed {
         return Some(LinkKind::NotAccessible);
@@ -62,19 +62,19 @@ fn access_test(put: bool, member: MemberFacts) -> Option<LinkKind>
 // ---- fields
 
 fn puts(op: FieldOp) -> bool
-    ensures { result ≡ References.puts op }
+    ensures { result ≡ ReferenceUses.puts op }
 {
     matches!(op, FieldOp::PutStatic | FieldOp::PutField)
 }
 
 fn takes_static(op: FieldOp) -> bool
-    ensures { result ≡ References.takes_static op }
+    ensures { result ≡ ReferenceUses.takes_static op }
 {
     matches!(op, FieldOp::GetStatic | FieldOp::PutStatic)
 }
 
 fn field_member_test(op: FieldOp, member: Option<MemberFacts>) -> Option<LinkKind>
-    ensures { result ≡ References.field_member_test op member }
+    ensures { result ≡ ReferenceUses.field_member_test op member }
 {
     let Some(member) = member else {
         return Some(LinkKind::NoMember);
@@ -90,7 +90,7 @@ fn field_member_test(op: FieldOp, member: Option<MemberFacts>) -> Option<LinkKin
 
 /// The test of getfield, putfield, getstatic and putstatic.
 pub fn field_test(op: FieldOp, field: MemberUse) -> Option<LinkKind>
-    ensures { result ≡ References.field_test op field }
+    ensures { result ≡ ReferenceUses.field_test op field }
 {
     if let Some(kind) = field.names {
         return Some(kind);
@@ -116,7 +116,7 @@ fn calls_static(op: CallOp) -> bool
 }
 
 fn is_miscalled(op: CallOp, method: &MemberUse, member: MemberFacts) -> bool
-    ensures { result ≡ References.is_miscalled op method.now member }
+    ensures { result ≡ ReferenceUses.is_miscalled op method.now member }
 {
     match op {
         CallOp::Virtual => method.init || member.is_private,
@@ -126,7 +126,7 @@ fn is_miscalled(op: CallOp, method: &MemberUse, member: MemberFacts) -> bool
 }
 
 fn call_use_test(op: CallOp, method: &MemberUse, member: MemberFacts) -> Option<LinkKind>
-    ensures { result ≡ References.call_use_test op method.now member }
+    ensures { result ≡ ReferenceUses.call_use_test op method.now member }
 {
     if differs(calls_static(op), member.is_static) {
         return Some(LinkKind::BadUse);
@@ -154,7 +154,7 @@ fn call_member_test(op: CallOp, method: &MemberUse) -> Option<LinkKind>
 
 /// The test of invokevirtual, invokespecial and invokestatic.
 pub fn call_test(op: CallOp, method: MemberUse) -> Option<LinkKind>
-    ensures { result ≡ References.call_test op method }
+    ensures { result ≡ ReferenceUses.call_test op method }
 {
     if let Some(kind) = method.names {
         return Some(kind);
@@ -169,7 +169,7 @@ pub fn call_test(op: CallOp, method: MemberUse) -> Option<LinkKind>
 }
 
 fn counts(count: u8, slots: Option<usize>) -> bool
-    ensures { result ≡ References.counts count slots }
+    ensures { result ≡ ReferenceUses.counts count slots }
 {
     match slots {
         Some(slots) => slots < usize::from(count) && slots + 1 == usize::from(count),
@@ -178,7 +178,7 @@ fn counts(count: u8, slots: Option<usize>) -> bool
 }
 
 fn is_misused(count: u8, method: &MemberUse, member: MemberFacts) -> bool
-    ensures { result ≡ References.is_misused count method.now member }
+    ensures { result ≡ ReferenceUses.is_misused count method.now member }
 {
     member.is_static
         || method.crossed
@@ -204,7 +204,7 @@ fn interface_member_test(count: u8, method: &MemberUse) -> Option<LinkKind>
 
 /// The test of invokeinterface, which says how many slots its arguments and its receiver take.
 pub fn interface_test(count: u8, method: MemberUse) -> Option<LinkKind>
-    ensures { result ≡ References.interface_test count method }
+    ensures { result ≡ ReferenceUses.interface_test count method }
 {
     if let Some(kind) = method.names {
         return Some(kind);

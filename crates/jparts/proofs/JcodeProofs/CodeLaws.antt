@@ -3,13 +3,13 @@ use Rattle.std.proofs.Common.{◌≡◌, ℕ, ◌-◌, ◌≤◌, ℤ, true, fal
 use Rattle.std.specs.Prelude.{IsTrue, ◌==◌, if◌then◌else◌}
 use Rattle.std.specs.List.{list_all}
 use Rattle.std.proofs.lemmas.Bool.{cases_Bool, eqb-true}
-use Rattle.jground.specs.jbase.First.{first_some}
+use Rattle.jground.specs.jbase.FirstFaults.{first_some}
 use Rattle.jground.specs.declared.jformat.error.Fault.{Fault}
 use Rattle.jground.specs.jformat.Format.{IsBytes, Answer, unless_fault}
-use Rattle.jground.proofs.JformatProofs.Steps.{IsBytes-rest, bind_ok, bind_err, ok_is, both, first_true, second_true, fault_within}
-use Rattle.jground.proofs.JformatProofs.Laws.{Takes, IsFormat, HasBytes, as_case_law}
+use Rattle.jground.proofs.JformatProofs.ReadingSteps.{IsBytes-rest, bind_ok, bind_err, ok_is, both, first_true, second_true, fault_within}
+use Rattle.jground.proofs.JformatProofs.FormatLaws.{Takes, IsFormat, HasBytes, as_case_law}
 use Rattle.jground.proofs.JformatProofs.Blocks.{IsBody}
-use Rattle.jground.proofs.JformatProofs.Stateful.{many_by_law}
+use Rattle.jground.proofs.JformatProofs.StatefulFormats.{many_by_law}
 use Rattle.jparts.specs.declared.jcode.fault.CodeFault.{CodeFault}
 use Rattle.jparts.specs.declared.jcode.fault.CodeFault.TheVariants.{Truncated, BadTarget}
 use Rattle.jparts.specs.declared.jcode.names.LocalKind.TheVariants as kinds
@@ -24,8 +24,8 @@ use Rattle.jparts.specs.declared.jcode.op.Switch.TheVariants as switches
 use Rattle.jparts.specs.declared.jcode.op.Placed.{Placed}
 use Rattle.jparts.specs.declared.jcode.head.Head.{Head}
 use Rattle.jparts.specs.declared.jcode.head.Head.TheVariants as heads
-use Rattle.jparts.specs.declared.jcode.head.Plain.{Plain}
-use Rattle.jparts.specs.declared.jcode.head.Plain.TheVariants as plain
+use Rattle.jparts.specs.declared.jcode.head.OneByteOp.{OneByteOp}
+use Rattle.jparts.specs.declared.jcode.head.OneByteOp.TheVariants as plain
 use Rattle.jparts.specs.declared.jcode.head.ByteHead.TheVariants as byte
 use Rattle.jparts.specs.declared.jcode.head.IndexHead.{IndexHead}
 use Rattle.jparts.specs.declared.jcode.head.IndexHead.TheVariants as index
@@ -34,7 +34,7 @@ use Rattle.jparts.specs.declared.jcode.head.BranchHead.TheVariants as branch
 use Rattle.jparts.specs.declared.jcode.head.OtherHead.{OtherHead}
 use Rattle.jparts.specs.declared.jcode.head.OtherHead.TheVariants as other
 use Rattle.jparts.specs.jcode.Opcodes.{head_number, head_at}
-use Rattle.jparts.specs.jcode.Operands.{Operand, operands}
+use Rattle.jparts.specs.jcode.OperandFormats.{Operand, operands}
 use Rattle.jparts.specs.jcode.Instructions.{op_from, Parts, parts, behind, behind_fits, read_behind, at_front, behind_head, instruction_at, instruction, placed_at, placed, place_behind, instructions, leads, first_lost, lost_fault, code}
 use Rattle.jparts.specs.ProofNames.{lost}
 use Rattle.jparts.proofs.JcodeProofs.OpcodeLaws.{number_of_head, head_of_number}
@@ -50,7 +50,7 @@ op_at at p = if p.at == at then Some p.op else None
 abbrev Returns : (h : Head) → Operand h → Type 0
 Returns h x = ◌≡◌ {A = Parts} (parts (op_from h x)) (h, x)
 
-plain_back : (p : Plain) (x : Unit {0}) → Returns (heads.Plain p) x
+plain_back : (p : OneByteOp) (x : Unit {0}) → Returns (heads.Plain p) x
 plain_back plain.Nop x = refl
 plain_back plain.AconstNull x = refl
 plain_back (plain.IntConst n) x = refl

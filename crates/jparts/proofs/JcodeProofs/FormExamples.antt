@@ -6,8 +6,8 @@ use Rattle.jparts.specs.declared.jcode.names.Access.TheVariants.{Load, Store}
 use Rattle.jparts.specs.declared.jcode.names.Slot.TheVariants as slots
 use Rattle.jparts.specs.declared.jcode.names.SmallInt.TheVariants as ints
 use Rattle.jparts.specs.declared.jcode.names.Element.TheVariants as elements
-use Rattle.jground.specs.declared.jnames.names.OpTwo.TheVariants.{Lshl, Lcmp}
-use Rattle.jground.specs.declared.jnames.names.Shuffle.{Shuffle}
+use Rattle.jvalues.specs.declared.jnames.names.OpTwo.TheVariants.{Lshl, Lcmp}
+use Rattle.jvalues.specs.declared.jnames.names.Shuffle.{Shuffle}
 use Rattle.jparts.specs.declared.jcode.names.FieldOp.TheVariants.{PutField}
 use Rattle.jparts.specs.declared.jcode.op.Op.TheVariants as ops
 use Rattle.jparts.specs.declared.jcode.op.IntConst.TheVariants as consts
@@ -15,10 +15,10 @@ use Rattle.jparts.specs.declared.jcode.op.Ldc.TheVariants as ldcs
 use Rattle.jparts.specs.declared.jcode.op.LocalOp.TheVariants as moves
 use Rattle.jparts.specs.declared.jcode.op.Goto.TheVariants as gotos
 use Rattle.jparts.specs.declared.jcode.op.Wide.TheVariants as wides
-use Rattle.jground.specs.declared.jnames.kinds.Kind.TheVariants as kinds
-use Rattle.jground.specs.declared.jnames.kinds.Kinds.TheVariants as taken
-use Rattle.jground.specs.jnames.Effects.{gives, takes}
-use Rattle.jparts.specs.jcode.Forms.{form, effect, listed}
+use Rattle.jvalues.specs.declared.jnames.kinds.Kind.TheVariants as kinds
+use Rattle.jvalues.specs.declared.jnames.kinds.Kinds.TheVariants as taken
+use Rattle.jvalues.specs.jnames.Effects.{gives, takes}
+use Rattle.jparts.specs.jcode.InstructionForms.{form, effect, listed}
 
 -- ---- one form for all spellings
 

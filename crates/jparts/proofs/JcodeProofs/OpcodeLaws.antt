@@ -11,12 +11,12 @@ use Rattle.jparts.specs.declared.jcode.names.SmallInt.TheVariants as ints
 use Rattle.jparts.specs.declared.jcode.names.SmallLong.TheVariants as longs
 use Rattle.jparts.specs.declared.jcode.names.Element.{Element}
 use Rattle.jparts.specs.declared.jcode.names.Element.TheVariants as elements
-use Rattle.jground.specs.declared.jnames.names.OpTwo.TheVariants as twos
-use Rattle.jground.specs.declared.jnames.names.Division.TheVariants as divisions
-use Rattle.jground.specs.declared.jnames.names.OpOne.TheVariants as ones
-use Rattle.jground.specs.declared.jnames.names.Shuffle.TheVariants.{Pop, Pop2, Dup, DupX1, DupX2, Dup2, Dup2X1, Dup2X2, Swap}
-use Rattle.jground.specs.declared.jnames.names.Compare.{Compare}
-use Rattle.jground.specs.declared.jnames.names.Compare.TheVariants.{Eq, Ne, Lt, Ge, Gt, Le}
+use Rattle.jvalues.specs.declared.jnames.names.OpTwo.TheVariants as twos
+use Rattle.jvalues.specs.declared.jnames.names.Division.TheVariants as divisions
+use Rattle.jvalues.specs.declared.jnames.names.OpOne.TheVariants as ones
+use Rattle.jvalues.specs.declared.jnames.names.Shuffle.TheVariants.{Pop, Pop2, Dup, DupX1, DupX2, Dup2, Dup2X1, Dup2X2, Swap}
+use Rattle.jvalues.specs.declared.jnames.names.Compare.{Compare}
+use Rattle.jvalues.specs.declared.jnames.names.Compare.TheVariants.{Eq, Ne, Lt, Ge, Gt, Le}
 use Rattle.jparts.specs.declared.jcode.names.RefTest.TheVariants.{Same, Other, Null, NonNull}
 use Rattle.jparts.specs.declared.jcode.names.Returned.TheVariants as results
 use Rattle.jparts.specs.declared.jcode.names.FieldOp.TheVariants.{GetStatic, PutStatic, GetField, PutField}
@@ -27,8 +27,8 @@ use Rattle.jparts.specs.declared.jcode.fault.CodeFault.{CodeFault}
 use Rattle.jparts.specs.declared.jcode.fault.CodeFault.TheVariants.{LeftOut, UnknownOpcode}
 use Rattle.jparts.specs.declared.jcode.head.Head.{Head}
 use Rattle.jparts.specs.declared.jcode.head.Head.TheVariants as heads
-use Rattle.jparts.specs.declared.jcode.head.Plain.{Plain}
-use Rattle.jparts.specs.declared.jcode.head.Plain.TheVariants as plain
+use Rattle.jparts.specs.declared.jcode.head.OneByteOp.{OneByteOp}
+use Rattle.jparts.specs.declared.jcode.head.OneByteOp.TheVariants as plain
 use Rattle.jparts.specs.declared.jcode.head.ByteHead.{ByteHead}
 use Rattle.jparts.specs.declared.jcode.head.ByteHead.TheVariants as byte
 use Rattle.jparts.specs.declared.jcode.head.IndexHead.{IndexHead}
@@ -96,7 +96,7 @@ local_named kinds.Int Store s = each_slot (λ s. head_at (head_number (heads.Pla
 local_named kinds.Long Store s = each_slot (λ s. head_at (head_number (heads.Plain (plain.Local kinds.Long Store s))) ≡ Ok (heads.Plain (plain.Local kinds.Long Store s))) refl refl refl refl s
 local_named kinds.Ref Store s = each_slot (λ s. head_at (head_number (heads.Plain (plain.Local kinds.Ref Store s))) ≡ Ok (heads.Plain (plain.Local kinds.Ref Store s))) refl refl refl refl s
 
-plain_named : (p : Plain) → head_at (head_number (heads.Plain p)) ≡ Ok (heads.Plain p)
+plain_named : (p : OneByteOp) → head_at (head_number (heads.Plain p)) ≡ Ok (heads.Plain p)
 unfolding head_at
 plain_named plain.Nop = refl
 plain_named plain.AconstNull = refl

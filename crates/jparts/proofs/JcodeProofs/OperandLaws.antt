@@ -2,14 +2,14 @@
 use Rattle.std.proofs.Common.{◌≡◌, ℕ, zero, suc, ◌%◌, ◌-◌, ℤ, true, eqb, List, [], ◌∷◌, length, Option, None, refl, ap, arith}
 use Rattle.std.specs.Int.{w8, w16, w32, to_be_bytes, from_be_bytes}
 use Rattle.jground.specs.jformat.Format.{IsBytes, known, ◌·◌, such}
-use Rattle.jground.specs.jformat.Bodies.{counted}
-use Rattle.jground.specs.jformat.States.{counted_from}
-use Rattle.jground.specs.jformat.Cases.{IsOnce}
-use Rattle.jground.proofs.JformatProofs.Laws.{IsWide, IsFormat, wide16, wide32, void_law, byte_law, number_law, signed_law, pair_law, then_law, via_law, such_law, literal_law, known_law}
+use Rattle.jground.specs.jformat.BodyFormats.{counted}
+use Rattle.jground.specs.jformat.StatefulFormats.{counted_from}
+use Rattle.jground.specs.jformat.UnionFormats.{IsOnce}
+use Rattle.jground.proofs.JformatProofs.FormatLaws.{IsWide, IsFormat, wide16, wide32, void_law, byte_law, number_law, signed_law, pair_law, then_law, via_law, such_law, literal_law, known_law}
 use Rattle.jground.proofs.JformatProofs.Blocks.{counted_law}
-use Rattle.jground.proofs.JformatProofs.Casing.{IsCases, case_law, sole_law, either_law, union_law}
-use Rattle.jground.proofs.JformatProofs.Stateful.{counted_from_law}
-use Rattle.jground.specs.jbase.First.{fault_if}
+use Rattle.jground.proofs.JformatProofs.UnionCases.{IsCases, case_law, sole_law, either_law, union_law}
+use Rattle.jground.proofs.JformatProofs.StatefulFormats.{counted_from_law}
+use Rattle.jground.specs.jbase.FirstFaults.{fault_if}
 use Rattle.jparts.specs.declared.jcode.fault.CodeFault.TheVariants.{Truncated, BadOperand}
 use Rattle.jparts.specs.declared.jcode.names.ArrayType.{ArrayType}
 use Rattle.jparts.specs.declared.jcode.names.ArrayType.TheVariants as arrays
@@ -23,7 +23,7 @@ use Rattle.jparts.specs.declared.jcode.head.Head.{Head}
 use Rattle.jparts.specs.declared.jcode.head.Head.TheVariants as heads
 use Rattle.jparts.specs.declared.jcode.head.OtherHead.{OtherHead}
 use Rattle.jparts.specs.declared.jcode.head.OtherHead.TheVariants as other
-use Rattle.jparts.specs.jcode.Operands.{u1, u2, u4, i1, i2, i4, nil, nils, padding, bounded, table_switch, case_count, falls, case_behind, key_of, lookup_switch, interface_call, array_number, array_case, array_cases, array_type, local_number, local_of, increment_of, wide_local, wide_cases, not_wide, wide, operands}
+use Rattle.jparts.specs.jcode.OperandFormats.{u1, u2, u4, i1, i2, i4, nil, nils, padding, bounded, table_switch, case_count, falls, case_behind, key_of, lookup_switch, interface_call, array_number, array_case, array_cases, array_type, local_number, local_of, increment_of, wide_local, wide_cases, not_wide, wide, operands}
 use Rattle.jparts.specs.ProofNames.{bounds, span}
 
 -- ---- numbers

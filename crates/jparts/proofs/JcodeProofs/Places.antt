@@ -13,13 +13,13 @@ use Rattle.std.proofs.lemmas.List.{length-append}
 use Rattle.std.proofs.lemmas.List.Concat.{flat_map-cons}
 use Rattle.std.proofs.lemmas.List.Folds.{list_any_at, list_all-map}
 use Rattle.std.proofs.lemmas.List.Sorted.{IsNonDecreasingBy-from_default}
-use Rattle.jground.specs.jbase.First.{first_some}
-use Rattle.jground.specs.declared.jbase.stop.Stop.{Stop}
-use Rattle.jground.specs.jbase.Stops.{Fails}
+use Rattle.jground.specs.jbase.FirstFaults.{first_some}
+use Rattle.jground.specs.declared.jbase.fault_or_memory.FaultOrMemory.{FaultOrMemory}
+use Rattle.jground.specs.jbase.MemoryFailures.{Fails}
 use Rattle.jground.specs.declared.jformat.error.Fault.{Fault}
 use Rattle.jground.specs.jformat.Format.{IsBytes, unless_fault}
-use Rattle.jground.specs.jformat.States.{fits_from, spell_from}
-use Rattle.jground.proofs.JformatProofs.Steps.{both, first_true, second_true}
+use Rattle.jground.specs.jformat.StatefulFormats.{fits_from, spell_from}
+use Rattle.jground.proofs.JformatProofs.ReadingSteps.{both, first_true, second_true}
 use Rattle.jparts.specs.declared.jcode.fault.CodeFault.{CodeFault}
 use Rattle.jparts.specs.declared.jcode.fault.CodeFault.TheVariants.{BadTarget}
 use Rattle.jparts.specs.declared.jcode.op.Op.{Op}
@@ -28,7 +28,7 @@ use Rattle.jparts.specs.declared.jcode.op.Case.{Case}
 use Rattle.jparts.specs.declared.jcode.op.Placed.{Placed}
 use Rattle.jparts.specs.jcode.Instructions.{instruction, size, placed, placed_at, place_behind, instructions, place_of, is_place, leads, first_lost, lost_fault, code, Rises}
 use Rattle.jparts.specs.ProofNames.{lost}
-use Rattle.jparts.proofs.JcodeProofs.Stopping.{fails_on}
+use Rattle.jparts.proofs.JcodeProofs.FaultPropagation.{fails_on}
 use Rattle.jparts.proofs.JcodeProofs.CodeLaws.{instruction_law, fits_at, instructions_law, code_law}
 
 -- ---- the next place
@@ -48,7 +48,7 @@ goes at total rest after op fits le is e =
 pub reads_placed : (at : ℕ) (rest after : List ℕ) (op : Op) → (instruction at).read rest ≡ Ok (op, after) → (placed at).read rest ≡ Ok (placed_at at op, after)
 reads_placed at rest after op e = rw e refl
 
-pub stops_placed : (at : ℕ) (stop : Stop (Fault CodeFault)) (rest : List ℕ) → Fails stop ((instruction at).read rest) → Fails stop ((placed at).read rest)
+pub stops_placed : (at : ℕ) (stop : FaultOrMemory (Fault CodeFault)) (rest : List ℕ) → Fails stop ((instruction at).read rest) → Fails stop ((placed at).read rest)
 stops_placed at stop rest h = fails_on stop ((instruction at).read rest) (λ x. Ok (placed_at at x.0, x.1)) h
 
 -- ---- places rise
@@ -202,7 +202,7 @@ lost_one bytes ps at fits e none =
     (lost_within bytes ps at t.0 t.1 none, rw (e, none) refl)
 
 -- where instructions have a fault, code has it
-pub faulty : (bytes : List ℕ) (stop : Stop (Fault CodeFault)) → Fails stop (instructions.read bytes) → Fails stop (code.read bytes)
+pub faulty : (bytes : List ℕ) (stop : FaultOrMemory (Fault CodeFault)) → Fails stop (instructions.read bytes) → Fails stop (code.read bytes)
 unfolding code
 faulty bytes stop h = fails_on stop (instructions.read bytes) (λ ps. unless_fault ps (lost_fault bytes (first_lost ps))) h
 

@@ -5,12 +5,12 @@ use Rattle.std.proofs.lemmas.Bool.{cases_Bool}
 use Rattle.std.proofs.lemmas.List.{length-append}
 use Rattle.std.proofs.lemmas.List.Concat.{flat_map-cons}
 use Rattle.jground.specs.jformat.Format.{known}
-use Rattle.jground.specs.jformat.States.{spell_from}
+use Rattle.jground.specs.jformat.StatefulFormats.{spell_from}
 use Rattle.jparts.specs.declared.jcode.fault.CodeFault.{CodeFault}
 use Rattle.jparts.specs.declared.jcode.op.Case.{Case}
 use Rattle.jparts.specs.declared.jcode.op.TableSwitch.{TableSwitch}
 use Rattle.jparts.specs.declared.jcode.op.LookupSwitch.{LookupSwitch}
-use Rattle.jparts.specs.jcode.Operands.{i4, u4, nils, padding, bounded, case_behind, key_of, table_switch, lookup_switch}
+use Rattle.jparts.specs.jcode.OperandFormats.{i4, u4, nils, padding, bounded, case_behind, key_of, table_switch, lookup_switch}
 use Rattle.jparts.specs.ProofNames.{span}
 
 nils_length : (n : ℕ) → length ((nils n).spell tt) ≡ n

@@ -9,12 +9,12 @@ use Rattle.std.proofs.lemmas.Bool.{ltb-true, lt-ltb, eqb-true}
 use Rattle.std.proofs.lemmas.List.{append-nil, length-append, length-map, map-append}
 use Rattle.std.proofs.lemmas.List.Concat.{flat_map-cons}
 use Rattle.std.specs.Int.{w16, to_be_bytes}
-use Rattle.jground.specs.jbase.Stops.{◌>>=◌}
+use Rattle.jground.specs.jbase.MemoryFailures.{◌>>=◌}
 use Rattle.jground.proofs.JbaseProofs.Loops.{behind}
-use Rattle.jground.specs.jformat.Bodies.{counted}
+use Rattle.jground.specs.jformat.BodyFormats.{counted}
 use Rattle.jground.specs.ProofNames.{row_fits}
-use Rattle.jground.specs.jformat.States.{spell_from, fits_from}
-use Rattle.jground.proofs.JformatProofs.Steps.{bind_ok, ok_is, first_true, second_true, both}
+use Rattle.jground.specs.jformat.StatefulFormats.{spell_from, fits_from}
+use Rattle.jground.proofs.JformatProofs.ReadingSteps.{bind_ok, ok_is, first_true, second_true, both}
 use Rattle.jparts.specs.declared.jmaps.types.MapType.{MapType}
 use Rattle.jparts.specs.declared.jmaps.types.RawFrame.{RawFrame}
 use Rattle.jparts.specs.declared.jmaps.types.FullFrame.{FullFrame}
@@ -22,10 +22,10 @@ use Rattle.jparts.specs.declared.jmaps.types.Number.{Number}
 use Rattle.jparts.specs.declared.jmaps.types.Number.TheVariants.{Given, Written}
 use Rattle.jparts.specs.declared.jmaps.types.Row.{Row}
 use Rattle.jparts.specs.declared.jmaps.fault.MapFault.TheVariants as kinds
-use Rattle.jparts.specs.jmaps.Frames.{row, part, body, frame, frames, maps, own_frame, own_type}
+use Rattle.jparts.specs.jmaps.StackMapFormat.{row, part, body, frame, frames, maps, own_frame, own_type}
 use Rattle.jparts.specs.ProofNames.{or_kind}
 use Rattle.jparts.proofs.JmapsProofs.MapLaws.{maps_law}
-use Rattle.jparts.specs.jmaps.Full.{place_behind, locals_before, chopped, locals_after, expand_from, delta_behind, is_behind, full_form, full_forms, stands, can_follow, place_after, all_stand, can_write, items_fit, with_locals}
+use Rattle.jparts.specs.jmaps.ExpandedFrames.{place_behind, locals_before, chopped, locals_after, expand_from, delta_behind, is_behind, full_form, full_forms, stands, can_follow, place_after, all_stand, can_write, items_fit, with_locals}
 
 -- a test that each item passes
 pub all_are : (xs : List MapType) → IsTrue (list_all (λ x. true) xs)

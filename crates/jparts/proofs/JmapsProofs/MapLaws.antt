@@ -7,15 +7,15 @@ use Rattle.std.proofs.lemmas.List.Concat.{flat_map-cons}
 use Rattle.std.proofs.lemmas.Bool.{eqb-true}
 use Rattle.jground.specs.declared.jformat.error.Fault.{Fault}
 use Rattle.jground.specs.jformat.Format.{IsBytes, Format, number, ◌·◌}
-use Rattle.jground.specs.jformat.Bodies.{counted}
-use Rattle.jground.specs.jformat.Cases.{IsOnce}
-use Rattle.jground.specs.jformat.Tags.{rows}
+use Rattle.jground.specs.jformat.BodyFormats.{counted}
+use Rattle.jground.specs.jformat.UnionFormats.{IsOnce}
+use Rattle.jground.specs.jformat.TagTables.{rows}
 use Rattle.jground.specs.ProofNames.{row_spell, row_fits}
-use Rattle.jground.proofs.JformatProofs.Steps.{ok_is, both, first_true, second_true}
-use Rattle.jground.proofs.JformatProofs.Laws.{Takes, IsFormat, wide16, number_law, pair_law, via_law}
+use Rattle.jground.proofs.JformatProofs.ReadingSteps.{ok_is, both, first_true, second_true}
+use Rattle.jground.proofs.JformatProofs.FormatLaws.{Takes, IsFormat, wide16, number_law, pair_law, via_law}
 use Rattle.jground.proofs.JformatProofs.Blocks.{IsBody, whole_law, counted_law}
 use Rattle.jground.proofs.JformatProofs.Unions.{rows_law}
-use Rattle.jground.proofs.JformatProofs.Casing.{IsCases, case_law, sole_law, either_law, union_law}
+use Rattle.jground.proofs.JformatProofs.UnionCases.{IsCases, case_law, sole_law, either_law, union_law}
 use Rattle.jparts.specs.declared.jmaps.fault.Kinds.{Kinds}
 use Rattle.jparts.specs.declared.jmaps.types.MapType.{MapType}
 use Rattle.jparts.specs.declared.jmaps.types.MapType.TheVariants.{Top, Int, Long, Null, UninitThis, Uninit, Object}
@@ -23,7 +23,7 @@ use Rattle.jparts.specs.declared.jmaps.types.RawFrame.{RawFrame}
 use Rattle.jparts.specs.declared.jmaps.types.Number.{Number}
 use Rattle.jparts.specs.declared.jmaps.types.Number.TheVariants.{Given, Written}
 use Rattle.jparts.specs.declared.jmaps.types.Row.{Row}
-use Rattle.jparts.specs.jmaps.Frames.{alone, tag, type_cases, no_type, map_type, row, given, part, body, frame, frames, map_kinds, maps}
+use Rattle.jparts.specs.jmaps.StackMapFormat.{alone, tag, type_cases, no_type, map_type, row, given, part, body, frame, frames, map_kinds, maps}
 use Rattle.jparts.specs.ProofNames.{or_kind}
 
 -- ---- names for what definitions say in place

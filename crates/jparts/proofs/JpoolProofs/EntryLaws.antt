@@ -5,18 +5,18 @@ use Rattle.std.proofs.lemmas.Bool.{cases_Bool, eqb-true}
 use Rattle.std.specs.Int.{w16, w32, w64}
 use Rattle.jground.specs.declared.jformat.error.Fault.{Fault}
 use Rattle.jground.specs.jformat.Format.{IsBytes, fault, ◌▹◌, void, known}
-use Rattle.jground.specs.jformat.Cases.{IsOnce}
-use Rattle.jground.proofs.JformatProofs.Steps.{both, first_true, second_true, fault_within}
-use Rattle.jground.proofs.JformatProofs.Laws.{Takes, IsFormat, HasBytes, known_law, wide16, wide32, wide64, byte_law, number_law, signed_law, void_law, pair_law, then_law, via_law, as_case_law, cond_law}
+use Rattle.jground.specs.jformat.UnionFormats.{IsOnce}
+use Rattle.jground.proofs.JformatProofs.ReadingSteps.{both, first_true, second_true, fault_within}
+use Rattle.jground.proofs.JformatProofs.FormatLaws.{Takes, IsFormat, HasBytes, known_law, wide16, wide32, wide64, byte_law, number_law, signed_law, void_law, pair_law, then_law, via_law, as_case_law, cond_law}
 use Rattle.jground.proofs.JformatProofs.Blocks.{sized_law}
-use Rattle.jground.proofs.JformatProofs.Casing.{IsCases, case_law, either_law, union_law, union_some}
-use Rattle.jground.proofs.JformatProofs.Stateful.{counted_from_law}
+use Rattle.jground.proofs.JformatProofs.UnionCases.{IsCases, case_law, either_law, union_law, union_some}
+use Rattle.jground.proofs.JformatProofs.StatefulFormats.{counted_from_law}
 use Rattle.jparts.specs.declared.jpool.entry.Entry.{Entry}
 use Rattle.jparts.specs.declared.jpool.entry.Entry.TheVariants.{Unused, Integer, Float, Long, Double, Str, Field, Method, InterfaceMethod, MethodHandle, MethodType, InvokeDynamic}
 use Rattle.jparts.specs.declared.jpool.fault.PoolFault.{PoolFault}
 use Rattle.jparts.specs.declared.jpool.fault.PoolFault.TheVariants.{Truncated, BadTag}
 use Rattle.jparts.specs.declared.jpool.slots.Slot.{Slot}
-use Rattle.jparts.specs.jpool.Entries.{u1, u2, u4, u8, i4, i8, two, cases, utf8_parts, class_parts, name_and_type_parts, entry, is_wide, begins_wide, narrow_at, narrow, unused, slot, next_slot, first_slot, slots, by_count, shape}
+use Rattle.jparts.specs.jpool.PoolEntries.{u1, u2, u4, u8, i4, i8, two, cases, utf8_parts, class_parts, name_and_type_parts, entry, is_wide, begins_wide, narrow_at, narrow, unused, slot, next_slot, first_slot, slots, by_count, shape}
 
 -- ---- names for what definitions say in place
 

@@ -6,25 +6,25 @@ use Rattle.std.specs.List.{list_all}
 use Rattle.std.proofs.Math.Seq.{drop-cons}
 use Rattle.std.proofs.Math.ListN.{drop_of_length-le}
 use Rattle.std.proofs.lemmas.List.{drop_at, drop-drop, length-append, length-drop}
-use Rattle.jground.specs.declared.jbase.stop.Stop.{Stop}
-use Rattle.jground.specs.declared.jbase.stop.Stop.TheVariants as stops
-use Rattle.jground.specs.jbase.Stops.{Fails}
-use Rattle.jground.specs.jbase.First.{or_else}
+use Rattle.jground.specs.declared.jbase.fault_or_memory.FaultOrMemory.{FaultOrMemory}
+use Rattle.jground.specs.declared.jbase.fault_or_memory.FaultOrMemory.TheVariants as stops
+use Rattle.jground.specs.jbase.MemoryFailures.{Fails}
+use Rattle.jground.specs.jbase.FirstFaults.{or_else}
 use Rattle.jground.specs.declared.jformat.error.Fault.{Fault}
 use Rattle.jground.specs.jformat.Format.{IsBytes, Answer, is_good, unless_fault, number_at}
-use Rattle.jground.specs.jformat.Places.{stop_at, FailsAt}
-use Rattle.jground.specs.jformat.States.{times_from}
-use Rattle.jground.proofs.JformatProofs.Steps.{IsBytes-drop, bind_ok, bind_err, done, ok_is, unless_ok, unless_err, both, first_true, second_true}
-use Rattle.jground.proofs.JformatProofs.Laws.{Takes, IsFormat}
+use Rattle.jground.specs.jformat.FaultOffsets.{stop_at, FailsAt}
+use Rattle.jground.specs.jformat.StatefulFormats.{times_from}
+use Rattle.jground.proofs.JformatProofs.ReadingSteps.{IsBytes-drop, bind_ok, bind_err, done, ok_is, unless_ok, unless_err, both, first_true, second_true}
+use Rattle.jground.proofs.JformatProofs.FormatLaws.{Takes, IsFormat}
 use Rattle.jparts.specs.declared.jpool.entry.Entry.{Entry}
 use Rattle.jparts.specs.declared.jpool.entry.Entry.TheVariants.{Class}
 use Rattle.jparts.specs.declared.jpool.fault.PoolFault.{PoolFault}
 use Rattle.jparts.specs.declared.jpool.fault.PoolFault.TheVariants.{Truncated}
-use Rattle.jparts.specs.jpool.Entries.{slot, next_slot, first_slot, shape, size, utf8_parts, class_parts}
-use Rattle.jparts.specs.jpool.Pools.{is_class, utf8_at, is_utf8, name_fault, entry_fault, faulty, first_fault, no_fault, pool, IsPool, Spells}
+use Rattle.jparts.specs.jpool.PoolEntries.{slot, next_slot, first_slot, shape, size, utf8_parts, class_parts}
+use Rattle.jparts.specs.jpool.ConstantPools.{is_class, utf8_at, is_utf8, name_fault, entry_fault, faulty, first_fault, no_fault, pool, IsPool, Spells}
 use Rattle.jparts.proofs.JpoolProofs.EntryLaws.{shape_law}
 
-pub shape_stops : (bytes rest : List ℕ) (count n : ℕ) (stop : Stop (Fault PoolFault)) → number_at w16 Truncated bytes ≡ Ok (count, rest) → Fails stop (times_from (λ s. (slot s).read) next_slot (first_slot count) n rest) → n ≡ count → Fails stop (shape.read bytes)
+pub shape_stops : (bytes rest : List ℕ) (count n : ℕ) (stop : FaultOrMemory (Fault PoolFault)) → number_at w16 Truncated bytes ≡ Ok (count, rest) → Fails stop (times_from (λ s. (slot s).read) next_slot (first_slot count) n rest) → n ≡ count → Fails stop (shape.read bytes)
 unfolding shape
 shape_stops bytes rest count n stops.Memory h k same = tt
 shape_stops bytes rest count n (stops.Fault d) h k same =
@@ -223,6 +223,6 @@ pub spelled : (bytes rest : List ℕ) (es : List Entry) → IsBytes bytes → po
 spelled bytes rest es fits e = let t = pool_law.takes bytes (es, rest) fits e in (t.fit, t.parts)
 
 -- where a pool is spelled, a reader stops for want of memory alone
-pub stopped : {A : Type 0} (bytes : List ℕ) (at : ℕ) (stop : Stop (Fault PoolFault)) (es : List Entry) (rest : List ℕ) (x : A) → Fails stop (pool.read (drop at bytes)) → Spells (drop at bytes) es rest → FailsAt bytes (stop_at bytes stop) (done (Fault PoolFault) x)
+pub stopped : {A : Type 0} (bytes : List ℕ) (at : ℕ) (stop : FaultOrMemory (Fault PoolFault)) (es : List Entry) (rest : List ℕ) (x : A) → Fails stop (pool.read (drop at bytes)) → Spells (drop at bytes) es rest → FailsAt bytes (stop_at bytes stop) (done (Fault PoolFault) x)
 stopped bytes at stops.Memory es rest x h s = tt
 stopped bytes at (stops.Fault d) es rest x h s = let no = sym (read_is (drop at bytes) es rest s) ∙ h in absurd cc

@@ -4,8 +4,8 @@ use Rattle.std.specs.Prelude.{slice_get, option_map, option_and_then}
 use Rattle.std.proofs.lemmas.Option.{slice_get-map}
 use Rattle.jparts.specs.declared.jpool.entry.Entry.{Entry}
 use Rattle.jparts.specs.declared.jpool.uses.TextUse.{TextUse}
-use Rattle.jparts.specs.jpool.Uses.{use_in, use_of, uses_of}
-use Rattle.jparts.specs.jpool.Entries.{utf8_parts}
+use Rattle.jparts.specs.jpool.PoolTextUses.{use_in, use_of, uses_of}
+use Rattle.jparts.specs.jpool.PoolEntries.{utf8_parts}
 
 in_entry : (o : Option Entry) → use_in (option_map (λ e. option_map use_of (option_and_then utf8_parts (Some e))) o) ≡ option_map use_of (option_and_then utf8_parts o)
 in_entry None = refl

@@ -2,13 +2,13 @@
 use Rattle.std.specs.Prelude.{◌≡◌, ℕ, ◌+◌, ◌<◌, ◌==◌, ℤ, pos, ◌+ℤ◌, Bool, IsTrue, ◌&&◌, if◌then◌else◌, List, [], ◌∷◌, length, get_or, position, nat_le, nat_lt, Option, Some, None, option_map, Result, Ok, Err}
 use Rattle.std.specs.List.{list_all, list_any}
 use Rattle.std.specs.Ordering.{int_eq}
-use Rattle.jground.specs.jbase.Stops.{◌>>=◌}
-use Rattle.jground.specs.jbase.First.{first_some}
+use Rattle.jground.specs.jbase.MemoryFailures.{◌>>=◌}
+use Rattle.jground.specs.jbase.FirstFaults.{first_some}
 use Rattle.jground.specs.declared.jformat.error.Fault.{Fault}
 use Rattle.jground.specs.jformat.Format.{Answer, Format, fault, as_case, unless_fault}
-use Rattle.jground.specs.jformat.Places.{from_end}
-use Rattle.jground.specs.jformat.Bodies.{Body}
-use Rattle.jground.specs.jformat.States.{many_by}
+use Rattle.jground.specs.jformat.FaultOffsets.{from_end}
+use Rattle.jground.specs.jformat.BodyFormats.{Body}
+use Rattle.jground.specs.jformat.StatefulFormats.{many_by}
 use Rattle.jparts.specs.declared.jcode.fault.CodeFault.{CodeFault}
 use Rattle.jparts.specs.declared.jcode.fault.CodeFault.TheVariants.{Truncated, BadTarget}
 use Rattle.jparts.specs.declared.jcode.names.LocalKind.{LocalKind}
@@ -26,15 +26,15 @@ use Rattle.jparts.specs.declared.jcode.op.Placed.{Placed}
 use Rattle.jparts.specs.declared.jcode.op.Handler.{Handler}
 use Rattle.jparts.specs.declared.jcode.head.Head.{Head}
 use Rattle.jparts.specs.declared.jcode.head.Head.TheVariants as heads
-use Rattle.jparts.specs.declared.jcode.head.Plain.{Plain}
-use Rattle.jparts.specs.declared.jcode.head.Plain.TheVariants as plain
+use Rattle.jparts.specs.declared.jcode.head.OneByteOp.{OneByteOp}
+use Rattle.jparts.specs.declared.jcode.head.OneByteOp.TheVariants as plain
 use Rattle.jparts.specs.declared.jcode.head.ByteHead.TheVariants as byte
 use Rattle.jparts.specs.declared.jcode.head.IndexHead.TheVariants as index
 use Rattle.jparts.specs.declared.jcode.head.BranchHead.TheVariants as branch
 use Rattle.jparts.specs.declared.jcode.head.OtherHead.TheVariants as other
-use Rattle.jparts.specs.jcode.Forms.{form, branches}
+use Rattle.jparts.specs.jcode.InstructionForms.{form, branches}
 use Rattle.jparts.specs.jcode.Opcodes.{head_number, head_at}
-use Rattle.jparts.specs.jcode.Operands.{Operand, operands}
+use Rattle.jparts.specs.jcode.OperandFormats.{Operand, operands}
 
 -- ---- an instruction as an opcode and its operands
 
@@ -82,7 +82,7 @@ op_from (heads.Other other.GotoWide) by = ops.Goto (gotos.Wide by)
 abbrev pub Parts : Type 0
 Parts = (h : Head) × Operand h
 
-abbrev pub bare : Plain → Parts
+abbrev pub bare : OneByteOp → Parts
 bare h = (heads.Plain h, tt)
 
 abbrev pub local_parts : LocalKind → LocalOp → Parts

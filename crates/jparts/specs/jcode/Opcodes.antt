@@ -13,16 +13,16 @@ use Rattle.jparts.specs.declared.jcode.names.SmallLong.{SmallLong}
 use Rattle.jparts.specs.declared.jcode.names.SmallLong.TheVariants as longs
 use Rattle.jparts.specs.declared.jcode.names.Element.{Element}
 use Rattle.jparts.specs.declared.jcode.names.Element.TheVariants as elements
-use Rattle.jground.specs.declared.jnames.names.OpTwo.{OpTwo}
-use Rattle.jground.specs.declared.jnames.names.OpTwo.TheVariants as twos
-use Rattle.jground.specs.declared.jnames.names.Division.{Division}
-use Rattle.jground.specs.declared.jnames.names.Division.TheVariants as divisions
-use Rattle.jground.specs.declared.jnames.names.OpOne.{OpOne}
-use Rattle.jground.specs.declared.jnames.names.OpOne.TheVariants as ones
-use Rattle.jground.specs.declared.jnames.names.Shuffle.{Shuffle}
-use Rattle.jground.specs.declared.jnames.names.Shuffle.TheVariants.{Pop, Pop2, Dup, DupX1, DupX2, Dup2, Dup2X1, Dup2X2, Swap}
-use Rattle.jground.specs.declared.jnames.names.Compare.{Compare}
-use Rattle.jground.specs.declared.jnames.names.Compare.TheVariants.{Eq, Ne, Lt, Ge, Gt, Le}
+use Rattle.jvalues.specs.declared.jnames.names.OpTwo.{OpTwo}
+use Rattle.jvalues.specs.declared.jnames.names.OpTwo.TheVariants as twos
+use Rattle.jvalues.specs.declared.jnames.names.Division.{Division}
+use Rattle.jvalues.specs.declared.jnames.names.Division.TheVariants as divisions
+use Rattle.jvalues.specs.declared.jnames.names.OpOne.{OpOne}
+use Rattle.jvalues.specs.declared.jnames.names.OpOne.TheVariants as ones
+use Rattle.jvalues.specs.declared.jnames.names.Shuffle.{Shuffle}
+use Rattle.jvalues.specs.declared.jnames.names.Shuffle.TheVariants.{Pop, Pop2, Dup, DupX1, DupX2, Dup2, Dup2X1, Dup2X2, Swap}
+use Rattle.jvalues.specs.declared.jnames.names.Compare.{Compare}
+use Rattle.jvalues.specs.declared.jnames.names.Compare.TheVariants.{Eq, Ne, Lt, Ge, Gt, Le}
 use Rattle.jparts.specs.declared.jcode.names.RefTest.{RefTest}
 use Rattle.jparts.specs.declared.jcode.names.RefTest.TheVariants.{Same, Other, Null, NonNull}
 use Rattle.jparts.specs.declared.jcode.names.Returned.{Returned}
@@ -35,8 +35,8 @@ use Rattle.jparts.specs.declared.jcode.fault.CodeFault.{CodeFault}
 use Rattle.jparts.specs.declared.jcode.fault.CodeFault.TheVariants.{LeftOut, UnknownOpcode}
 use Rattle.jparts.specs.declared.jcode.head.Head.{Head}
 use Rattle.jparts.specs.declared.jcode.head.Head.TheVariants as heads
-use Rattle.jparts.specs.declared.jcode.head.Plain.{Plain}
-use Rattle.jparts.specs.declared.jcode.head.Plain.TheVariants as plain
+use Rattle.jparts.specs.declared.jcode.head.OneByteOp.{OneByteOp}
+use Rattle.jparts.specs.declared.jcode.head.OneByteOp.TheVariants as plain
 use Rattle.jparts.specs.declared.jcode.head.ByteHead.{ByteHead}
 use Rattle.jparts.specs.declared.jcode.head.ByteHead.TheVariants as byte
 use Rattle.jparts.specs.declared.jcode.head.IndexHead.{IndexHead}
@@ -181,10 +181,10 @@ all_one = ones.Ineg ∷ ones.Lneg ∷ ones.I2l ∷ ones.L2i ∷ ones.I2b ∷ one
 abbrev pub all_compares : List Compare
 all_compares = Eq ∷ Ne ∷ Lt ∷ Ge ∷ Gt ∷ Le ∷ []
 
-abbrev pub of_kind : LocalKind → List Plain
+abbrev pub of_kind : LocalKind → List OneByteOp
 of_kind kind = map (plain.Local kind Load) all_slots ++ map (plain.Local kind Store) all_slots
 
-abbrev pub all_plain : List Plain
+abbrev pub all_plain : List OneByteOp
 all_plain = plain.Nop ∷ plain.AconstNull ∷ map plain.IntConst all_ints ++ plain.LongConst longs.Zero ∷ plain.LongConst longs.One
     ∷ of_kind kinds.Int ++ of_kind kinds.Long ++ of_kind kinds.Ref
     ++ map plain.ArrayLoad all_elements ++ map plain.ArrayStore all_elements ++ map plain.Stack all_shuffles

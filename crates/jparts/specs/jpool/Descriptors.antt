@@ -7,7 +7,7 @@ use Rattle.jparts.specs.declared.jpool.descriptor.Descriptor.{Descriptor}
 use Rattle.jparts.specs.declared.jpool.descriptor.Descriptor.TheVariants as descriptors
 use Rattle.jparts.specs.declared.jpool.descriptor.DescError.{DescError}
 use Rattle.jparts.specs.declared.jpool.descriptor.DescError.TheVariants as errors
-use Rattle.jparts.specs.jpool.Names.{is_class_name}
+use Rattle.jparts.specs.jpool.ClassNames.{is_class_name}
 
 -- ---- the signs
 

@@ -1,12 +1,12 @@
 ghost use Rattle.std.specs.Prelude.{◌≡◌};
 ghost use Rattle.std.specs.List.{list_all};
 ghost use Rattle.jparts.specs.jcode.Instructions;
-ghost use Rattle.jparts.specs.jcode.Forms.{flow_branches, seen_flow, switch_branches};
+ghost use Rattle.jparts.specs.jcode.InstructionForms.{flow_branches, seen_flow, switch_branches};
 ghost use Rattle.jparts.specs.jcode.Instructions.{Rises, is_place, lands, leads};
 
-use crate::jcode::form::{Flow, Form};
 use crate::jcode::forming::form_of;
 use crate::jcode::op::{Case, Placed, Switch};
+use crate::jcode::op_form::{Flow, OpForm};
 
 /// An instruction stands at this place.
 fn is_place(ops: &[Placed], target: i64) -> bool
@@ -93,19 +93,19 @@ fn flow_leads(ops: &[Placed], at: u32, flow: &Flow<&Switch>) -> bool
 }
 
 /// Each branch of an instruction leads to an instruction.
-#[tactic(auto, unfolding(crate::specs::jcode::Forms::branches))]
+#[tactic(auto, unfolding(crate::specs::jcode::InstructionForms::branches))]
 fn leads(ops: &[Placed], one: &Placed) -> bool
     requires { Rises ops.now }
     ensures { result ≡ leads ops.now one.now }
 {
     match form_of(&one.op) {
-        Form::Flow(flow) => flow_leads(ops, one.at, &flow),
+        OpForm::Flow(flow) => flow_leads(ops, one.at, &flow),
         _ => true,
     }
 }
 
 /// The place of the first instruction with a branch that leads to none.
-#[tactic(auto, unfolding(crate::specs::jcode::Instructions::first_lost, jground::specs::jbase::First::first_some))]
+#[tactic(auto, unfolding(crate::specs::jcode::Instructions::first_lost, jground::specs::jbase::FirstFaults::first_some))]
 pub fn first_lost(ops: &[Placed]) -> Option<u32>
     requires { Rises ops.now }
     ensures { result ≡ Instructions.first_lost ops.now }

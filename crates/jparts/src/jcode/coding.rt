@@ -1,6 +1,6 @@
 ghost use Rattle.std.specs.Prelude.{◌≡◌, ◌<◌, ◌^◌, IfOk, IsTrue, List, Ok, length};
-ghost use Rattle.jground.specs.jbase.Stops.{Gives};
-ghost use Rattle.jground.specs.jformat.Places.{GivesAt};
+ghost use Rattle.jground.specs.jbase.MemoryFailures.{Gives};
+ghost use Rattle.jground.specs.jformat.FaultOffsets.{GivesAt};
 ghost use Rattle.jparts.specs.declared.jcode.op.Placed.{Placed};
 ghost use Rattle.jparts.specs.jcode.Instructions.{code, instruction, instructions};
 
@@ -9,7 +9,7 @@ use crate::jcode::fault::{CodeError, CodeFault};
 use crate::jcode::op::Placed;
 use crate::jcode::read::op_of;
 use crate::jcode::write::put_op;
-use jground::jbase::{Seq, Stop};
+use jground::jbase::{FaultOrMemory, Seq};
 use jground::jformat::{At, ReadError, Writer, fault, put_each, stop_at};
 use std::alloc::{AllocError, Global};
 
@@ -39,12 +39,12 @@ fn code_of(alloc: Global, bytes: &[u8]) -> Result<Seq<Placed>, CodeError>
     ensures { GivesAt (λ ops. ops) bytes.now result (code.read bytes.now) }
 {
     if bytes.len() > u32::MAX as usize {
-        return Err(Stop::Memory);
+        return Err(FaultOrMemory::Memory);
     }
     match ops_of(alloc, bytes) {
         Ok(ops) => match first_lost(ops.as_slice()) {
             None => Ok(ops),
-            Some(at) => Err(Stop::Fault(At {
+            Some(at) => Err(FaultOrMemory::Fault(At {
                 at,
                 kind: CodeFault::BadTarget,
             })),

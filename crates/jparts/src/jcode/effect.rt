@@ -1,10 +1,10 @@
 ghost use Rattle.std.specs.Prelude.{◌≡◌};
-ghost use Rattle.jparts.specs.jcode.Forms;
-ghost use Rattle.jparts.specs.jcode.Forms.{array_effect, compared, element, flow_effect, local, local_effect, returned, simple_effect};
+ghost use Rattle.jparts.specs.jcode.InstructionForms;
+ghost use Rattle.jparts.specs.jcode.InstructionForms.{array_effect, compared, element, flow_effect, local, local_effect, returned, simple_effect};
 
-use crate::jcode::form::{ArrayForm, Flow, Form, LocalForm, Simple};
 use crate::jcode::names::{Access, Element, LocalKind, RefTest, Returned};
-use jground::jnames::{Effect, Kind, Kinds};
+use crate::jcode::op_form::{ArrayForm, Flow, LocalForm, OpForm, Simple};
+use jvalues::jnames::{Effect, Kind, Kinds};
 
 fn simple_effect(form: Simple) -> Effect
     ensures { result ≡ simple_effect form }
@@ -109,15 +109,15 @@ fn array_effect(form: ArrayForm) -> Effect
 ///
 /// `None` is answered where the form itself doesn't say them: for moves of the stack, which take and give items of any kinds,
 /// and for forms by the pool, of which the entry says what they take and give.
-#[tactic(auto, unfolding(crate::specs::jcode::Forms::effect))]
-pub fn effect_of<S>(form: &Form<S>) -> Option<Effect>
-    ensures { result ≡ Forms.effect form.now }
+#[tactic(auto, unfolding(crate::specs::jcode::InstructionForms::effect))]
+pub fn effect_of<S>(form: &OpForm<S>) -> Option<Effect>
+    ensures { result ≡ InstructionForms.effect form.now }
 {
     match form {
-        Form::Simple(form) => Some(simple_effect(*form)),
-        Form::Local(form) => Some(local_effect(*form)),
-        Form::Flow(form) => Some(flow_effect(form)),
-        Form::Array(form) => Some(array_effect(*form)),
-        Form::Stack(_) | Form::Pool(_) => None,
+        OpForm::Simple(form) => Some(simple_effect(*form)),
+        OpForm::Local(form) => Some(local_effect(*form)),
+        OpForm::Flow(form) => Some(flow_effect(form)),
+        OpForm::Array(form) => Some(array_effect(*form)),
+        OpForm::Stack(_) | OpForm::Pool(_) => None,
     }
 }

@@ -1,4 +1,4 @@
-use jground::jbase::Stop;
+use jground::jbase::FaultOrMemory;
 use jground::jformat::At;
 
 /// What is wrong with code. The place of each is the first byte of its instruction.
@@ -18,4 +18,4 @@ pub enum CodeFault {
 }
 
 /// Why code gave no instructions: the first fault and its place in the bytes, or want of memory.
-pub type CodeError = Stop<At<CodeFault>>;
+pub type CodeError = FaultOrMemory<At<CodeFault>>;

@@ -1,9 +1,9 @@
 ghost use Rattle.std.specs.Prelude.{◌≡◌, [], ◌∷◌, length, slice_get};
-ghost use Rattle.jparts.specs.jcode.Forms;
-ghost use Rattle.jparts.specs.jcode.Forms.{branches, flow_branches, flow_goes_on, seen, seen_flow, switch_branches};
+ghost use Rattle.jparts.specs.jcode.InstructionForms;
+ghost use Rattle.jparts.specs.jcode.InstructionForms.{branches, flow_branches, flow_goes_on, seen, seen_flow, switch_branches};
 
-use crate::jcode::form::{Flow, Form};
 use crate::jcode::op::Switch;
+use crate::jcode::op_form::{Flow, OpForm};
 
 fn switch_count(switch: &Switch) -> usize
     ensures { result ≡ length (switch_branches switch.now) }
@@ -25,12 +25,12 @@ fn flow_count(flow: &Flow<&Switch>) -> usize
 }
 
 /// How many branches a form has.
-#[tactic(auto, unfolding(crate::specs::jcode::Forms::branches))]
-pub fn branch_count(form: &Form<&Switch>) -> usize
+#[tactic(auto, unfolding(crate::specs::jcode::InstructionForms::branches))]
+pub fn branch_count(form: &OpForm<&Switch>) -> usize
     ensures { result ≡ length (branches (seen form.now)) }
 {
     match form {
-        Form::Flow(flow) => flow_count(flow),
+        OpForm::Flow(flow) => flow_count(flow),
         _ => 0,
     }
 }
@@ -79,12 +79,12 @@ fn flow_branch(flow: &Flow<&Switch>, i: usize) -> Option<i32>
 
 /// The branch of a form with a number, counted from 0: a distance from its instruction's own place. The default of a switch is
 /// the first.
-#[tactic(auto, unfolding(crate::specs::jcode::Forms::branches))]
-pub fn branch_at(form: &Form<&Switch>, i: usize) -> Option<i32>
+#[tactic(auto, unfolding(crate::specs::jcode::InstructionForms::branches))]
+pub fn branch_at(form: &OpForm<&Switch>, i: usize) -> Option<i32>
     ensures { result ≡ slice_get (branches (seen form.now)) i }
 {
     match form {
-        Form::Flow(flow) => flow_branch(flow, i),
+        OpForm::Flow(flow) => flow_branch(flow, i),
         _ => None,
     }
 }
@@ -99,12 +99,12 @@ fn flow_goes_on<S>(flow: &Flow<S>) -> bool
 }
 
 /// Whether the instruction behind a form's own may follow it.
-#[tactic(auto, unfolding(crate::specs::jcode::Forms::goes_on))]
-pub fn goes_on<S>(form: &Form<S>) -> bool
-    ensures { result ≡ Forms.goes_on form.now }
+#[tactic(auto, unfolding(crate::specs::jcode::InstructionForms::goes_on))]
+pub fn goes_on<S>(form: &OpForm<S>) -> bool
+    ensures { result ≡ InstructionForms.goes_on form.now }
 {
     match form {
-        Form::Flow(flow) => flow_goes_on(flow),
+        OpForm::Flow(flow) => flow_goes_on(flow),
         _ => true,
     }
 }

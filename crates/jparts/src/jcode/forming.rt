@@ -1,12 +1,12 @@
 ghost use Rattle.std.specs.Prelude.{◌≡◌, pos, ◌-ℤ◌};
-ghost use Rattle.jparts.specs.jcode.Forms;
-ghost use Rattle.jparts.specs.jcode.Forms.{const_value, local_form, new_form, seen};
+ghost use Rattle.jparts.specs.jcode.InstructionForms;
+ghost use Rattle.jparts.specs.jcode.InstructionForms.{const_value, local_form, new_form, seen};
 ghost use Rattle.jparts.specs.ProofNames.{distance, ldc_index, object_form, wide_form};
 ghost use Rattle.jparts.specs.jcode.Opcodes.{int_step, slot_step, long_step};
 
-use crate::jcode::form::{ArrayForm, Flow, Form, LocalForm, PoolForm, Simple};
 use crate::jcode::names::{LocalKind, ObjectOp, Slot, SmallInt, SmallLong};
 use crate::jcode::op::{Goto, IntConst, Ldc, LocalOp, NewOp, Op, Switch, Wide};
+use crate::jcode::op_form::{ArrayForm, Flow, LocalForm, OpForm, PoolForm, Simple};
 
 fn int_value(n: SmallInt) -> i32
     ensures { result ≡ pos (int_step n) -ℤ pos 1 }
@@ -88,22 +88,22 @@ fn wide_form(op: Wide) -> LocalForm
     }
 }
 
-fn new_form<'a>(op: NewOp) -> Form<&'a Switch>
+fn new_form<'a>(op: NewOp) -> OpForm<&'a Switch>
     ensures { seen result ≡ new_form op }
 {
     match op {
-        NewOp::Object(n) => Form::Pool(PoolForm::New(n)),
-        NewOp::Array(element) => Form::Array(ArrayForm::New(element)),
-        NewOp::RefArray(n) => Form::Array(ArrayForm::NewRef(n)),
+        NewOp::Object(n) => OpForm::Pool(PoolForm::New(n)),
+        NewOp::Array(element) => OpForm::Array(ArrayForm::New(element)),
+        NewOp::RefArray(n) => OpForm::Array(ArrayForm::NewRef(n)),
     }
 }
 
-fn object_form<'a>(op: ObjectOp) -> Form<&'a Switch>
+fn object_form<'a>(op: ObjectOp) -> OpForm<&'a Switch>
     ensures { seen result ≡ object_form op }
 {
     match op {
-        ObjectOp::ArrayLength => Form::Array(ArrayForm::Length),
-        ObjectOp::Throw => Form::Flow(Flow::Throw),
+        ObjectOp::ArrayLength => OpForm::Array(ArrayForm::Length),
+        ObjectOp::Throw => OpForm::Flow(Flow::Throw),
     }
 }
 
@@ -111,39 +111,39 @@ fn object_form<'a>(op: ObjectOp) -> Form<&'a Switch>
 ///
 /// All spellings of an instruction have one form: iload_1, iload 1 and wide iload 1; iconst_3, bipush 3 and sipush 3; goto and
 /// goto_w; ldc and ldc_w.
-#[tactic(auto, unfolding(crate::specs::jcode::Forms::form))]
-pub fn form_of(op: &Op) -> Form<&Switch>
-    ensures { seen result ≡ Forms.form op.now }
+#[tactic(auto, unfolding(crate::specs::jcode::InstructionForms::form))]
+pub fn form_of(op: &Op) -> OpForm<&Switch>
+    ensures { seen result ≡ InstructionForms.form op.now }
 {
     match op {
-        Op::Nop => Form::Simple(Simple::Nothing),
-        Op::AconstNull => Form::Simple(Simple::Null),
-        Op::IntConst(n) => Form::Simple(Simple::Int(const_value(*n))),
-        Op::LongConst(n) => Form::Simple(Simple::Long(long_value(*n))),
-        Op::Ldc(op) => Form::Pool(PoolForm::Constant(ldc_index(*op))),
-        Op::Ldc2(n) => Form::Pool(PoolForm::LongConstant(*n)),
-        Op::IntLocal(op) => Form::Local(local_form(LocalKind::Int, *op)),
-        Op::LongLocal(op) => Form::Local(local_form(LocalKind::Long, *op)),
-        Op::RefLocal(op) => Form::Local(local_form(LocalKind::Ref, *op)),
-        Op::ArrayLoad(element) => Form::Array(ArrayForm::Load(*element)),
-        Op::ArrayStore(element) => Form::Array(ArrayForm::Store(*element)),
-        Op::Stack(op) => Form::Stack(*op),
-        Op::Two(op) => Form::Simple(Simple::Two(*op)),
-        Op::Divide(op) => Form::Simple(Simple::Divide(*op)),
-        Op::One(op) => Form::Simple(Simple::One(*op)),
-        Op::Iinc(n, by) => Form::Local(LocalForm::Increment(u16::from(*n), i16::from(*by))),
-        Op::If(test, by) => Form::Flow(Flow::If(*test, i32::from(*by))),
-        Op::IfInt(test, by) => Form::Flow(Flow::IfInt(*test, i32::from(*by))),
-        Op::IfRef(test, by) => Form::Flow(Flow::IfRef(*test, i32::from(*by))),
-        Op::Goto(op) => Form::Flow(Flow::Goto(distance(*op))),
-        Op::Switch(switch) => Form::Flow(Flow::Switch(switch.get())),
-        Op::Return(kind) => Form::Flow(Flow::Return(*kind)),
-        Op::Field(op, n) => Form::Pool(PoolForm::Field(*op, *n)),
-        Op::Call(op, n) => Form::Pool(PoolForm::Call(*op, *n)),
-        Op::CallInterface(n, slots) => Form::Pool(PoolForm::CallInterface(*n, *slots)),
+        Op::Nop => OpForm::Simple(Simple::Nothing),
+        Op::AconstNull => OpForm::Simple(Simple::Null),
+        Op::IntConst(n) => OpForm::Simple(Simple::Int(const_value(*n))),
+        Op::LongConst(n) => OpForm::Simple(Simple::Long(long_value(*n))),
+        Op::Ldc(op) => OpForm::Pool(PoolForm::Constant(ldc_index(*op))),
+        Op::Ldc2(n) => OpForm::Pool(PoolForm::LongConstant(*n)),
+        Op::IntLocal(op) => OpForm::Local(local_form(LocalKind::Int, *op)),
+        Op::LongLocal(op) => OpForm::Local(local_form(LocalKind::Long, *op)),
+        Op::RefLocal(op) => OpForm::Local(local_form(LocalKind::Ref, *op)),
+        Op::ArrayLoad(element) => OpForm::Array(ArrayForm::Load(*element)),
+        Op::ArrayStore(element) => OpForm::Array(ArrayForm::Store(*element)),
+        Op::Stack(op) => OpForm::Stack(*op),
+        Op::Two(op) => OpForm::Simple(Simple::Two(*op)),
+        Op::Divide(op) => OpForm::Simple(Simple::Divide(*op)),
+        Op::One(op) => OpForm::Simple(Simple::One(*op)),
+        Op::Iinc(n, by) => OpForm::Local(LocalForm::Increment(u16::from(*n), i16::from(*by))),
+        Op::If(test, by) => OpForm::Flow(Flow::If(*test, i32::from(*by))),
+        Op::IfInt(test, by) => OpForm::Flow(Flow::IfInt(*test, i32::from(*by))),
+        Op::IfRef(test, by) => OpForm::Flow(Flow::IfRef(*test, i32::from(*by))),
+        Op::Goto(op) => OpForm::Flow(Flow::Goto(distance(*op))),
+        Op::Switch(switch) => OpForm::Flow(Flow::Switch(switch.get())),
+        Op::Return(kind) => OpForm::Flow(Flow::Return(*kind)),
+        Op::Field(op, n) => OpForm::Pool(PoolForm::Field(*op, *n)),
+        Op::Call(op, n) => OpForm::Pool(PoolForm::Call(*op, *n)),
+        Op::CallInterface(n, slots) => OpForm::Pool(PoolForm::CallInterface(*n, *slots)),
         Op::New(op) => new_form(*op),
         Op::Object(op) => object_form(*op),
-        Op::Cast(op, n) => Form::Pool(PoolForm::Cast(*op, *n)),
-        Op::Wide(op) => Form::Local(wide_form(*op)),
+        Op::Cast(op, n) => OpForm::Pool(PoolForm::Cast(*op, *n)),
+        Op::Wide(op) => OpForm::Local(wide_form(*op)),
     }
 }

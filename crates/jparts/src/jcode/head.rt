@@ -2,13 +2,13 @@ use crate::jcode::names::{
     Access, CallOp, CastOp, Element, FieldOp, LocalKind, ObjectOp, RefTest, Returned, Slot,
     SmallInt, SmallLong,
 };
-use jground::jnames::{Compare, Division, OpOne, OpTwo, Shuffle};
+use jvalues::jnames::{Compare, Division, OpOne, OpTwo, Shuffle};
 
 /// An opcode, by what stands behind it.
 #[derive(Clone, Copy)]
 pub enum Head {
     /// Nothing.
-    Plain(Plain),
+    Plain(OneByteOp),
     /// A number of one byte.
     Byte(ByteHead),
     /// An index into the pool.
@@ -22,7 +22,7 @@ pub enum Head {
 /// An opcode that is the whole instruction.
 #[rattlefmt::skip]
 #[derive(Clone, Copy)]
-pub enum Plain {
+pub enum OneByteOp {
     Nop, AconstNull, IntConst(SmallInt), LongConst(SmallLong), Local(LocalKind, Access, Slot), ArrayLoad(Element), ArrayStore(Element),
     Stack(Shuffle), Two(OpTwo), Divide(Division), One(OpOne), Return(Returned), Object(ObjectOp),
 }

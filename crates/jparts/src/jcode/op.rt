@@ -4,7 +4,7 @@ use crate::jcode::names::{
 };
 use crate::jcode::pointer::Boxed;
 use jground::jbase::Seq;
-use jground::jnames::{Compare, Division, OpOne, OpTwo, Shuffle};
+use jvalues::jnames::{Compare, Division, OpOne, OpTwo, Shuffle};
 
 /// An instruction as it is written (JVMS 6.5): which opcode of its row of the table it has, and its operands in order. Indices
 /// are of the pool, and a branch is the distance from the instruction's own place.

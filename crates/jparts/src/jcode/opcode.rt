@@ -7,13 +7,13 @@ ghost use Rattle.jparts.specs.declared.jcode.op.Op.TheVariants as ops;
 ghost use Rattle.jparts.specs.jcode.Instructions.{local_parts, parts};
 ghost use Rattle.jparts.specs.declared.jcode.head.Head.TheVariants as heads;
 
-use crate::jcode::head::{BranchHead, ByteHead, Head, IndexHead, OtherHead, Plain};
+use crate::jcode::head::{BranchHead, ByteHead, Head, IndexHead, OneByteOp, OtherHead};
 use crate::jcode::names::{
     Access, CallOp, CastOp, Element, FieldOp, LocalKind, ObjectOp, RefTest, Returned, Slot,
     SmallInt, SmallLong,
 };
 use crate::jcode::op::{Goto, IntConst, Ldc, LocalOp, NewOp, Op, Switch};
-use jground::jnames::{Compare, Division, OpOne, OpTwo, Shuffle};
+use jvalues::jnames::{Compare, Division, OpOne, OpTwo, Shuffle};
 
 fn slot_step(slot: Slot) -> u8
     ensures step { result ≡ Opcodes.slot_step slot }
@@ -205,23 +205,23 @@ fn object_number(op: ObjectOp) -> u8
     }
 }
 
-fn plain_number(head: Plain) -> u8
+fn plain_number(head: OneByteOp) -> u8
     ensures { result ≡ head_number (heads.Plain head) }
 {
     match head {
-        Plain::Nop => 0x00,
-        Plain::AconstNull => 0x01,
-        Plain::IntConst(n) => 0x02 + int_step(n),
-        Plain::LongConst(n) => 0x09 + long_step(n),
-        Plain::Local(kind, access, slot) => slot_base(kind, access) + slot_step(slot),
-        Plain::ArrayLoad(element) => 0x2e + element_step(element),
-        Plain::ArrayStore(element) => 0x4f + element_step(element),
-        Plain::Stack(op) => 0x57 + shuffle_step(op),
-        Plain::Two(op) => two_number(op),
-        Plain::Divide(op) => division_number(op),
-        Plain::One(op) => one_number(op),
-        Plain::Return(kind) => return_number(kind),
-        Plain::Object(op) => object_number(op),
+        OneByteOp::Nop => 0x00,
+        OneByteOp::AconstNull => 0x01,
+        OneByteOp::IntConst(n) => 0x02 + int_step(n),
+        OneByteOp::LongConst(n) => 0x09 + long_step(n),
+        OneByteOp::Local(kind, access, slot) => slot_base(kind, access) + slot_step(slot),
+        OneByteOp::ArrayLoad(element) => 0x2e + element_step(element),
+        OneByteOp::ArrayStore(element) => 0x4f + element_step(element),
+        OneByteOp::Stack(op) => 0x57 + shuffle_step(op),
+        OneByteOp::Two(op) => two_number(op),
+        OneByteOp::Divide(op) => division_number(op),
+        OneByteOp::One(op) => one_number(op),
+        OneByteOp::Return(kind) => return_number(kind),
+        OneByteOp::Object(op) => object_number(op),
     }
 }
 
@@ -318,7 +318,7 @@ fn local_head(kind: LocalKind, op: LocalOp) -> Head
 {
     match op {
         LocalOp::At(access, _) => Head::Byte(ByteHead::Local(kind, access)),
-        LocalOp::Slot(access, slot) => Head::Plain(Plain::Local(kind, access, slot)),
+        LocalOp::Slot(access, slot) => Head::Plain(OneByteOp::Local(kind, access, slot)),
     }
 }
 
@@ -336,24 +336,24 @@ fn op_head(op: &Op) -> Head
     ensures { result ≡ op_head op.now }
 {
     match op {
-        Op::Nop => Head::Plain(Plain::Nop),
-        Op::AconstNull => Head::Plain(Plain::AconstNull),
-        Op::IntConst(IntConst::Small(n)) => Head::Plain(Plain::IntConst(*n)),
+        Op::Nop => Head::Plain(OneByteOp::Nop),
+        Op::AconstNull => Head::Plain(OneByteOp::AconstNull),
+        Op::IntConst(IntConst::Small(n)) => Head::Plain(OneByteOp::IntConst(*n)),
         Op::IntConst(IntConst::Byte(_)) => Head::Other(OtherHead::Bipush),
         Op::IntConst(IntConst::Short(_)) => Head::Other(OtherHead::Sipush),
-        Op::LongConst(n) => Head::Plain(Plain::LongConst(*n)),
+        Op::LongConst(n) => Head::Plain(OneByteOp::LongConst(*n)),
         Op::Ldc(Ldc::Narrow(_)) => Head::Byte(ByteHead::Ldc),
         Op::Ldc(Ldc::Wide(_)) => Head::Index(IndexHead::LdcWide),
         Op::Ldc2(_) => Head::Index(IndexHead::Ldc2),
         Op::IntLocal(op) => local_head(LocalKind::Int, *op),
         Op::LongLocal(op) => local_head(LocalKind::Long, *op),
         Op::RefLocal(op) => local_head(LocalKind::Ref, *op),
-        Op::ArrayLoad(element) => Head::Plain(Plain::ArrayLoad(*element)),
-        Op::ArrayStore(element) => Head::Plain(Plain::ArrayStore(*element)),
-        Op::Stack(op) => Head::Plain(Plain::Stack(*op)),
-        Op::Two(op) => Head::Plain(Plain::Two(*op)),
-        Op::Divide(op) => Head::Plain(Plain::Divide(*op)),
-        Op::One(op) => Head::Plain(Plain::One(*op)),
+        Op::ArrayLoad(element) => Head::Plain(OneByteOp::ArrayLoad(*element)),
+        Op::ArrayStore(element) => Head::Plain(OneByteOp::ArrayStore(*element)),
+        Op::Stack(op) => Head::Plain(OneByteOp::Stack(*op)),
+        Op::Two(op) => Head::Plain(OneByteOp::Two(*op)),
+        Op::Divide(op) => Head::Plain(OneByteOp::Divide(*op)),
+        Op::One(op) => Head::Plain(OneByteOp::One(*op)),
         Op::Iinc(_, _) => Head::Other(OtherHead::Iinc),
         Op::If(test, _) => Head::Branch(BranchHead::If(*test)),
         Op::IfInt(test, _) => Head::Branch(BranchHead::IfInt(*test)),
@@ -361,14 +361,14 @@ fn op_head(op: &Op) -> Head
         Op::Goto(Goto::Narrow(_)) => Head::Branch(BranchHead::Goto),
         Op::Goto(Goto::Wide(_)) => Head::Other(OtherHead::GotoWide),
         Op::Switch(switch) => switch_head(switch.get()),
-        Op::Return(kind) => Head::Plain(Plain::Return(*kind)),
+        Op::Return(kind) => Head::Plain(OneByteOp::Return(*kind)),
         Op::Field(op, _) => Head::Index(IndexHead::Field(*op)),
         Op::Call(op, _) => Head::Index(IndexHead::Call(*op)),
         Op::CallInterface(_, _) => Head::Other(OtherHead::CallInterface),
         Op::New(NewOp::Object(_)) => Head::Index(IndexHead::New),
         Op::New(NewOp::Array(_)) => Head::Other(OtherHead::NewArray),
         Op::New(NewOp::RefArray(_)) => Head::Index(IndexHead::NewRefArray),
-        Op::Object(op) => Head::Plain(Plain::Object(*op)),
+        Op::Object(op) => Head::Plain(OneByteOp::Object(*op)),
         Op::Cast(op, _) => Head::Index(IndexHead::Cast(*op)),
         Op::Wide(_) => Head::Other(OtherHead::Wide),
     }

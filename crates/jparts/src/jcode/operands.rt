@@ -1,8 +1,8 @@
 ghost use Rattle.std.specs.Prelude.{◌≡◌, None};
-ghost use Rattle.jground.specs.jbase.Stops.{Gives};
-ghost use Rattle.jparts.specs.jcode.Operands.{array_type, bounded, case_behind, case_count, falls, i4, interface_call};
+ghost use Rattle.jground.specs.jbase.MemoryFailures.{Gives};
+ghost use Rattle.jparts.specs.jcode.OperandFormats.{array_type, bounded, case_behind, case_count, falls, i4, interface_call};
 ghost use Rattle.jparts.specs.ProofNames.{bounds, span};
-ghost use Rattle.jparts.specs.jcode.Operands.{key_of, lookup_switch, nil, nils, padding, table_switch, wide};
+ghost use Rattle.jparts.specs.jcode.OperandFormats.{key_of, lookup_switch, nil, nils, padding, table_switch, wide};
 
 use crate::jcode::fault::CodeFault;
 use crate::jcode::fault::CodeFault::{BadOperand, Truncated};
@@ -26,7 +26,7 @@ fn nil_of(bytes: &[u8]) -> Result<&[u8], ReadError<CodeFault>>
 }
 
 /// What lies behind the zero bytes that fill up a switch's opcode at a place to a multiple of four.
-#[tactic(auto, unfolding(crate::specs::jcode::Operands::nils))]
+#[tactic(auto, unfolding(crate::specs::jcode::OperandFormats::nils))]
 pub fn padding_of(at: u32, bytes: &[u8]) -> Result<&[u8], ReadError<CodeFault>>
     ensures { Gives (λ x. (tt, x.now)) result ((padding at).read bytes.now) }
 {
@@ -82,7 +82,7 @@ impl Reader for Branches {
 }
 
 /// The least and the greatest int of a table, and its branches.
-#[tactic(auto, unfolding(crate::specs::jcode::Operands::bounded))]
+#[tactic(auto, unfolding(crate::specs::jcode::OperandFormats::bounded))]
 fn bounded_of(
     alloc: Global,
     bytes: &[u8],
@@ -95,7 +95,7 @@ fn bounded_of(
 }
 
 /// The operands of a tableswitch at a place.
-#[tactic(auto, unfolding(crate::specs::jcode::Operands::table_switch))]
+#[tactic(auto, unfolding(crate::specs::jcode::OperandFormats::table_switch))]
 pub fn table_switch_of(
     alloc: Global,
     at: u32,
@@ -180,7 +180,7 @@ impl StateReader for Cases {
 }
 
 /// The operands of a lookupswitch at a place.
-#[tactic(auto, unfolding(crate::specs::jcode::Operands::lookup_switch))]
+#[tactic(auto, unfolding(crate::specs::jcode::OperandFormats::lookup_switch))]
 pub fn lookup_switch_of(
     alloc: Global,
     at: u32,
@@ -196,7 +196,7 @@ pub fn lookup_switch_of(
 }
 
 /// The operands of a call by an interface.
-#[tactic(auto, unfolding(crate::specs::jcode::Operands::interface_call))]
+#[tactic(auto, unfolding(crate::specs::jcode::OperandFormats::interface_call))]
 pub fn interface_call_of(bytes: &[u8]) -> Result<((u16, u8), &[u8]), ReadError<CodeFault>>
     ensures { Gives (λ x. (x.0, x.1.now)) result (interface_call.read bytes.now) }
 {
@@ -210,7 +210,7 @@ pub fn interface_call_of(bytes: &[u8]) -> Result<((u16, u8), &[u8]), ReadError<C
 }
 
 /// The code of newarray.
-#[tactic(auto, unfolding(crate::specs::jcode::Operands::array_type))]
+#[tactic(auto, unfolding(crate::specs::jcode::OperandFormats::array_type))]
 pub fn array_type_of(bytes: &[u8]) -> Result<(ArrayType, &[u8]), ReadError<CodeFault>>
     ensures { Gives (λ x. (x.0, x.1.now)) result (array_type.read bytes.now) }
 {
@@ -227,7 +227,7 @@ pub fn array_type_of(bytes: &[u8]) -> Result<(ArrayType, &[u8]), ReadError<CodeF
 }
 
 /// The opcode that a wide instruction widens, and its operands.
-#[tactic(auto, unfolding(crate::specs::jcode::Operands::wide))]
+#[tactic(auto, unfolding(crate::specs::jcode::OperandFormats::wide))]
 pub fn wide_of(bytes: &[u8]) -> Result<(Wide, &[u8]), ReadError<CodeFault>>
     ensures { Gives (λ x. (x.0, x.1.now)) result (wide.read bytes.now) }
 {

@@ -1,11 +1,11 @@
 ghost use Rattle.std.specs.Prelude.{◌≡◌};
-ghost use Rattle.jground.specs.jbase.Stops.{Gives};
+ghost use Rattle.jground.specs.jbase.MemoryFailures.{Gives};
 ghost use Rattle.jparts.specs.declared.jcode.head.Head.TheVariants as heads;
 ghost use Rattle.jparts.specs.jcode.Instructions.{instruction, local_op, read_behind, op_from};
 
 use crate::jcode::fault::CodeFault;
 use crate::jcode::fault::CodeFault::Truncated;
-use crate::jcode::head::{BranchHead, ByteHead, Head, IndexHead, OtherHead, Plain};
+use crate::jcode::head::{BranchHead, ByteHead, Head, IndexHead, OneByteOp, OtherHead};
 use crate::jcode::names::LocalKind;
 use crate::jcode::op::{Goto, IntConst, Ldc, LocalOp, NewOp, Op, Switch};
 use crate::jcode::operands::{
@@ -13,7 +13,7 @@ use crate::jcode::operands::{
 };
 use crate::jcode::pointer::Boxed;
 use crate::jcode::table::head_of;
-use jground::jbase::Stop;
+use jground::jbase::FaultOrMemory;
 use jground::jformat::{ReadError, fault, i8_of, i16_of, i32_of, u8_of, u16_of};
 use std::alloc::Global;
 
@@ -27,23 +27,23 @@ fn local_op(kind: LocalKind, op: LocalOp) -> Op
     }
 }
 
-fn plain_op(head: Plain) -> Op
+fn plain_op(head: OneByteOp) -> Op
     ensures { result ≡ op_from (heads.Plain head) tt }
 {
     match head {
-        Plain::Nop => Op::Nop,
-        Plain::AconstNull => Op::AconstNull,
-        Plain::IntConst(n) => Op::IntConst(IntConst::Small(n)),
-        Plain::LongConst(n) => Op::LongConst(n),
-        Plain::Local(kind, access, slot) => local_op(kind, LocalOp::Slot(access, slot)),
-        Plain::ArrayLoad(element) => Op::ArrayLoad(element),
-        Plain::ArrayStore(element) => Op::ArrayStore(element),
-        Plain::Stack(op) => Op::Stack(op),
-        Plain::Two(op) => Op::Two(op),
-        Plain::Divide(op) => Op::Divide(op),
-        Plain::One(op) => Op::One(op),
-        Plain::Return(kind) => Op::Return(kind),
-        Plain::Object(op) => Op::Object(op),
+        OneByteOp::Nop => Op::Nop,
+        OneByteOp::AconstNull => Op::AconstNull,
+        OneByteOp::IntConst(n) => Op::IntConst(IntConst::Small(n)),
+        OneByteOp::LongConst(n) => Op::LongConst(n),
+        OneByteOp::Local(kind, access, slot) => local_op(kind, LocalOp::Slot(access, slot)),
+        OneByteOp::ArrayLoad(element) => Op::ArrayLoad(element),
+        OneByteOp::ArrayStore(element) => Op::ArrayStore(element),
+        OneByteOp::Stack(op) => Op::Stack(op),
+        OneByteOp::Two(op) => Op::Two(op),
+        OneByteOp::Divide(op) => Op::Divide(op),
+        OneByteOp::One(op) => Op::One(op),
+        OneByteOp::Return(kind) => Op::Return(kind),
+        OneByteOp::Object(op) => Op::Object(op),
     }
 }
 
@@ -71,7 +71,7 @@ fn index_op(head: IndexHead, n: u16) -> Op
 }
 
 /// A branch behind its opcode.
-#[tactic(auto, using(crate::proofs::JcodeProofs::Rows::read_branch))]
+#[tactic(auto, using(crate::proofs::JcodeProofs::OpcodeRows::read_branch))]
 fn branch_of(at: u32, head: BranchHead, bytes: &[u8]) -> Result<(Op, &[u8]), ReadError<CodeFault>>
     ensures { Gives (λ x. (x.0, x.1.now)) result (read_behind at (heads.Branch head) bytes.now) }
 {
@@ -85,7 +85,7 @@ fn branch_of(at: u32, head: BranchHead, bytes: &[u8]) -> Result<(Op, &[u8]), Rea
 }
 
 /// An instruction behind an opcode whose operands are like no other's.
-#[tactic(auto, using(crate::proofs::JcodeProofs::Rows::read_others))]
+#[tactic(auto, using(crate::proofs::JcodeProofs::OpcodeRows::read_others))]
 fn other_of(
     alloc: Global,
     at: u32,
@@ -138,7 +138,7 @@ fn other_of(
 }
 
 /// An instruction behind its opcode.
-#[tactic(auto, using(crate::proofs::JcodeProofs::Rows::read_heads))]
+#[tactic(auto, using(crate::proofs::JcodeProofs::OpcodeRows::read_heads))]
 fn behind_opcode(
     alloc: Global,
     at: u32,
@@ -176,7 +176,7 @@ pub fn op_of(alloc: Global, at: u32, bytes: &[u8]) -> Result<(Op, &[u8]), ReadEr
     };
     match behind_opcode(alloc, at, head, rest) {
         Ok(found) => Ok(found),
-        Err(Stop::Memory) => Err(Stop::Memory),
-        Err(Stop::Fault(found)) => Err(fault(found.kind, bytes)),
+        Err(FaultOrMemory::Memory) => Err(FaultOrMemory::Memory),
+        Err(FaultOrMemory::Fault(found)) => Err(fault(found.kind, bytes)),
     }
 }

@@ -1,5 +1,5 @@
 ghost use Rattle.std.specs.Prelude.{◌≡◌, ◌<◌, ◌≤◌, ◌^◌, length};
-ghost use Rattle.jparts.specs.jcode.Operands.{array_type, lookup_switch, table_switch, wide};
+ghost use Rattle.jparts.specs.jcode.OperandFormats.{array_type, lookup_switch, table_switch, wide};
 ghost use Rattle.jparts.specs.declared.jcode.op.Op.TheVariants as ops;
 ghost use Rattle.jparts.specs.jcode.Instructions.{behind, size};
 
@@ -22,7 +22,7 @@ fn lookup_size(at: u32, switch: &LookupSwitch) -> u32
     (3 - at % 4) + (8 + 8 * switch.cases.as_slice().len() as u32)
 }
 
-#[tactic(auto, using(crate::proofs::JcodeProofs::Rows::switch_rows))]
+#[tactic(auto, using(crate::proofs::JcodeProofs::OpcodeRows::switch_rows))]
 fn switch_size(at: u32, switch: &Switch) -> u32
     requires { length (behind at (ops.Switch switch.now)) < 2 ^ 32 }
     ensures { result ≡ length (behind at (ops.Switch switch.now)) }
@@ -34,7 +34,7 @@ fn switch_size(at: u32, switch: &Switch) -> u32
 }
 
 /// The number of bytes behind an instruction's opcode.
-#[tactic(auto, using(crate::proofs::JcodeProofs::Rows::rows), unfolding(crate::specs::jcode::Operands::interface_call))]
+#[tactic(auto, using(crate::proofs::JcodeProofs::OpcodeRows::rows), unfolding(crate::specs::jcode::OperandFormats::interface_call))]
 fn size_behind(at: u32, op: &Op) -> u32
     requires { length (behind at op.now) < 2 ^ 32 }
     ensures { result ≡ length (behind at op.now) }
@@ -81,7 +81,7 @@ fn size_behind(at: u32, op: &Op) -> u32
     }
 }
 
-#[tactic(auto, unfolding(crate::specs::jcode::Operands::array_type))]
+#[tactic(auto, unfolding(crate::specs::jcode::OperandFormats::array_type))]
 fn array_type_size(element: ArrayType) -> u32
     ensures { result ≡ length (array_type.spell element) }
 {
@@ -95,7 +95,7 @@ fn array_type_size(element: ArrayType) -> u32
     }
 }
 
-#[tactic(auto, unfolding(crate::specs::jcode::Operands::wide))]
+#[tactic(auto, unfolding(crate::specs::jcode::OperandFormats::wide))]
 fn wide_size(op: Wide) -> u32
     ensures { result ≡ length (wide.spell op) }
 {

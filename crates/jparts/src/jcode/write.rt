@@ -1,6 +1,6 @@
 ghost use Rattle.std.specs.Prelude.{◌≡◌, ◌++◌, ◌∷◌, IsTrue, OnOk};
 ghost use Rattle.std.specs.Int.{to_be_bytes, w16};
-ghost use Rattle.jparts.specs.jcode.Operands.{array_type, bounded, case_behind, i4, interface_call, key_of, lookup_switch, padding, table_switch, wide};
+ghost use Rattle.jparts.specs.jcode.OperandFormats.{array_type, bounded, case_behind, i4, interface_call, key_of, lookup_switch, padding, table_switch, wide};
 ghost use Rattle.jparts.specs.declared.jcode.op.Op.TheVariants as ops;
 ghost use Rattle.jparts.specs.jcode.Instructions.{behind, behind_fits, instruction};
 
@@ -16,7 +16,7 @@ use jground::jformat::{
 use std::alloc::{AllocError, Global};
 
 /// Fills up a switch's opcode at a place to a multiple of four.
-#[tactic(auto, unfolding(crate::specs::jcode::Operands::nils))]
+#[tactic(auto, unfolding(crate::specs::jcode::OperandFormats::nils))]
 fn put_padding(at: u32, out: &mut Seq<u8>) -> Result<(), AllocError>
     ensures { OnOk result (out.new ≡ out.old ++ (padding at).spell tt) }
 {
@@ -49,7 +49,7 @@ impl Writer for Branches {
     }
 }
 
-#[tactic(auto, unfolding(crate::specs::jcode::Operands::bounded))]
+#[tactic(auto, unfolding(crate::specs::jcode::OperandFormats::bounded))]
 fn put_bounded(alloc: Global, switch: &TableSwitch, out: &mut Seq<u8>) -> Result<(), AllocError>
     requires { IsTrue (bounded.fits ((switch.now.low, switch.now.high), switch.now.branches)) }
     ensures { OnOk result (out.new ≡ out.old ++ bounded.spell ((switch.now.low, switch.now.high), switch.now.branches)) }
@@ -59,7 +59,7 @@ fn put_bounded(alloc: Global, switch: &TableSwitch, out: &mut Seq<u8>) -> Result
     put_each(alloc, &Branches, switch.branches.as_slice(), out)
 }
 
-#[tactic(auto, unfolding(crate::specs::jcode::Operands::table_switch))]
+#[tactic(auto, unfolding(crate::specs::jcode::OperandFormats::table_switch))]
 fn put_table(
     alloc: Global,
     at: u32,
@@ -103,7 +103,7 @@ impl StateWriter for Cases {
     }
 }
 
-#[tactic(auto, unfolding(crate::specs::jcode::Operands::lookup_switch))]
+#[tactic(auto, unfolding(crate::specs::jcode::OperandFormats::lookup_switch))]
 fn put_lookup(
     alloc: Global,
     at: u32,
@@ -120,7 +120,7 @@ fn put_lookup(
     put_by(alloc, &Cases, None, cases, out)
 }
 
-#[tactic(auto, unfolding(crate::specs::jcode::Operands::array_type))]
+#[tactic(auto, unfolding(crate::specs::jcode::OperandFormats::array_type))]
 fn put_array_type(element: ArrayType, out: &mut Seq<u8>) -> Result<(), AllocError>
     ensures { OnOk result (out.new ≡ out.old ++ array_type.spell element) }
 {
@@ -134,7 +134,7 @@ fn put_array_type(element: ArrayType, out: &mut Seq<u8>) -> Result<(), AllocErro
     }
 }
 
-#[tactic(auto, unfolding(crate::specs::jcode::Operands::wide))]
+#[tactic(auto, unfolding(crate::specs::jcode::OperandFormats::wide))]
 fn put_wide(op: Wide, out: &mut Seq<u8>) -> Result<(), AllocError>
     ensures { OnOk result (out.new ≡ out.old ++ wide.spell op) }
 {
@@ -160,7 +160,7 @@ fn put_wide_local(opcode: u8, n: u16, out: &mut Seq<u8>) -> Result<(), AllocErro
     put_u16(n, out)
 }
 
-#[tactic(auto, unfolding(crate::specs::jcode::Operands::interface_call))]
+#[tactic(auto, unfolding(crate::specs::jcode::OperandFormats::interface_call))]
 fn put_interface_call(method: u16, slots: u8, out: &mut Seq<u8>) -> Result<(), AllocError>
     ensures { OnOk result (out.new ≡ out.old ++ interface_call.spell (method, slots)) }
 {
@@ -169,7 +169,7 @@ fn put_interface_call(method: u16, slots: u8, out: &mut Seq<u8>) -> Result<(), A
     put_u8(0, out)
 }
 
-#[tactic(auto, using(crate::proofs::JcodeProofs::Rows::switch_rows))]
+#[tactic(auto, using(crate::proofs::JcodeProofs::OpcodeRows::switch_rows))]
 fn put_switch(alloc: Global, at: u32, switch: &Switch, out: &mut Seq<u8>) -> Result<(), AllocError>
     requires { IsTrue (behind_fits at (ops.Switch switch.now)) }
     ensures { OnOk result (out.new ≡ out.old ++ behind at (ops.Switch switch.now)) }
@@ -181,7 +181,7 @@ fn put_switch(alloc: Global, at: u32, switch: &Switch, out: &mut Seq<u8>) -> Res
 }
 
 /// Writes what stands behind an instruction's opcode.
-#[tactic(auto, using(crate::proofs::JcodeProofs::Rows::rows))]
+#[tactic(auto, using(crate::proofs::JcodeProofs::OpcodeRows::rows))]
 fn put_operands(alloc: Global, at: u32, op: &Op, out: &mut Seq<u8>) -> Result<(), AllocError>
     requires { IsTrue (behind_fits at op.now) }
     ensures { OnOk result (out.new ≡ out.old ++ behind at op.now) }

@@ -1,8 +1,8 @@
 ghost use Rattle.std.specs.Prelude.{◌≡◌, ◌+◌, ◌<◌, ◌≤◌, ◌^◌, IfOk, IfSome, IsTrue, None, length};
 ghost use Rattle.std.specs.List.{list_all};
 ghost use Rattle.std.specs.Option.{option_copied};
-ghost use Rattle.jparts.specs.jmaps.Frames.{maps, own_type};
-ghost use Rattle.jparts.specs.jmaps.Full.{GivesFull, all_stand, expand_from, items_fit, locals_before, place_behind, locals_after};
+ghost use Rattle.jparts.specs.jmaps.StackMapFormat.{maps, own_type};
+ghost use Rattle.jparts.specs.jmaps.ExpandedFrames.{GivesFull, all_stand, expand_from, items_fit, locals_before, place_behind, locals_after};
 
 use crate::jmaps::fault::ExpandError;
 use crate::jmaps::locals::follow;

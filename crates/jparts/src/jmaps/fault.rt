@@ -1,7 +1,7 @@
 ghost use Rattle.std.specs.Prelude.{◌≡◌};
 ghost use Rattle.jparts.specs.declared.jmaps.fault.ExpandError.TheVariants.{Memory};
 
-use jground::jbase::Stop;
+use jground::jbase::FaultOrMemory;
 use jground::jformat::At;
 use std::alloc::{AllocError, AllocFailed};
 
@@ -21,7 +21,7 @@ pub enum MapFault {
 }
 
 /// Why stack maps gave no frames: the first fault and the offset of its place, or want of memory, which may come at any time.
-pub type MapError = Stop<At<MapFault>>;
+pub type MapError = FaultOrMemory<At<MapFault>>;
 
 /// The names that a reader gives to the faults of stack maps.
 #[rattlefmt::skip]

@@ -1,7 +1,7 @@
 ghost use Rattle.std.specs.Prelude.{◌≡◌, ◌++◌, IfOk, IsTrue, OnOk, List, None, Ok, Some};
 ghost use Rattle.jparts.specs.declared.jmaps.types.MapType.{MapType};
-ghost use Rattle.jparts.specs.jmaps.Frames.{frame, maps, own_frame};
-ghost use Rattle.jparts.specs.jmaps.Full.{can_follow, can_write, delta_behind, expand_from, full_form, full_forms, is_behind, items_fit, place_after};
+ghost use Rattle.jparts.specs.jmaps.StackMapFormat.{frame, maps, own_frame};
+ghost use Rattle.jparts.specs.jmaps.ExpandedFrames.{can_follow, can_write, delta_behind, expand_from, full_form, full_forms, is_behind, items_fit, place_after};
 
 use crate::jmaps::types::FullFrame;
 use crate::jmaps::write::put_types;
@@ -20,7 +20,7 @@ fn delta_behind(earlier: Option<u32>, at: u32) -> u32
 }
 
 /// Writes the full form of a frame.
-#[tactic(auto, unfolding(crate::specs::jmaps::Frames::frame, crate::specs::jmaps::Frames::row))]
+#[tactic(auto, unfolding(crate::specs::jmaps::StackMapFormat::frame, crate::specs::jmaps::StackMapFormat::row))]
 fn put_full(
     alloc: Global,
     earlier: Option<u32>,

@@ -1,5 +1,5 @@
-ghost use Rattle.jparts.specs.jmaps.Full.{LocalsMap};
-ghost use Rattle.jparts.specs.jmaps.Spelled.{NoFaultWhereSpelled, OneReading, OneSpelling, SpelledWhereNoFault};
+ghost use Rattle.jparts.specs.jmaps.ExpandedFrames.{LocalsMap};
+ghost use Rattle.jparts.specs.jmaps.StackMapLaws.{NoFaultWhereSpelled, OneReading, OneSpelling, SpelledWhereNoFault};
 
 /// The laws of stack maps: bytes spell frames exactly where the reading of them has no fault, they spell one list of frames at most,
 /// and a list of frames has one spelling. It has no body to run; its contract is the laws.

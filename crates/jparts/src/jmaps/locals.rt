@@ -1,14 +1,14 @@
 ghost use Rattle.std.specs.Prelude.{◌≡◌, ◌<◌, ◌^◌, IfOk, OnErr, false};
-ghost use Rattle.jparts.specs.jmaps.Full;
-ghost use Rattle.jparts.specs.jmaps.Full.{locals_after, place_from};
-ghost use Rattle.jparts.specs.jmaps.Steps.{Became};
+ghost use Rattle.jparts.specs.jmaps.ExpandedFrames;
+ghost use Rattle.jparts.specs.jmaps.ExpandedFrames.{locals_after, place_from};
+ghost use Rattle.jparts.specs.jmaps.FrameExpansion.{Became};
 
 use crate::jmaps::types::{MapType, RawFrame};
 use std::alloc::{AllocError, Global};
 
 /// The place of a frame by that of the frame before it.
 pub fn place_from(earlier: Option<u32>, delta: u16) -> u32
-    requires { Full.place_from earlier 0xffff < 2 ^ 32 }
+    requires { ExpandedFrames.place_from earlier 0xffff < 2 ^ 32 }
     ensures { result ≡ place_from earlier delta }
 {
     match earlier {
@@ -19,7 +19,7 @@ pub fn place_from(earlier: Option<u32>, delta: u16) -> u32
 
 /// Takes the last locals away, if there are as many.
 fn chop(locals: &mut Vec<MapType>, count: usize) -> bool
-    ensures value { Became result (Full.chopped count locals.old.items) locals.new.items }
+    ensures value { Became result (ExpandedFrames.chopped count locals.old.items) locals.new.items }
     ensures same { result ≡ false → locals.new.items ≡ locals.old.items }
 {
     let all = locals.len();
@@ -32,7 +32,7 @@ fn chop(locals: &mut Vec<MapType>, count: usize) -> bool
 
 /// Makes the locals those that a frame has, by the locals before it; false where it takes away more than there are. Where it answers
 /// false, or an error, the locals stay.
-#[tactic(auto, unfolding(crate::specs::jmaps::Full::locals_after))]
+#[tactic(auto, unfolding(crate::specs::jmaps::ExpandedFrames::locals_after))]
 pub fn follow(
     locals: &mut Vec<MapType>,
     frame: &RawFrame,

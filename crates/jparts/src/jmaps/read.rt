@@ -1,8 +1,8 @@
 ghost use Rattle.std.specs.Prelude.{◌≡◌, ◌<◌, ◌^◌, IfOk, IsTrue, List, Ok, length};
 ghost use Rattle.jparts.specs.declared.jmaps.types.RawFrame.{RawFrame};
-ghost use Rattle.jground.specs.jbase.Stops.{Gives};
-ghost use Rattle.jground.specs.jformat.Places.{GivesAt};
-ghost use Rattle.jparts.specs.jmaps.Frames.{frame, frames, map_kinds, map_type, maps, part, read_alone};
+ghost use Rattle.jground.specs.jbase.MemoryFailures.{Gives};
+ghost use Rattle.jground.specs.jformat.FaultOffsets.{GivesAt};
+ghost use Rattle.jparts.specs.jmaps.StackMapFormat.{frame, frames, map_kinds, map_type, maps, part, read_alone};
 
 use crate::jmaps::fault::{Kinds, MapError, MapFault};
 use crate::jmaps::rows::row_of;
@@ -12,7 +12,7 @@ use jground::jformat::{ReadError, Reader, counted_of, fault, stop_at, times_of, 
 use std::alloc::Global;
 
 /// A type of an item. A tag that names none is `left_out` for float and double and `bad_tag` else, at the tag byte.
-#[tactic(auto, unfolding(crate::specs::jmaps::Frames::map_type))]
+#[tactic(auto, unfolding(crate::specs::jmaps::StackMapFormat::map_type))]
 pub fn type_of<'a, K: Copy>(
     kinds: &Kinds<K>,
     bytes: &'a [u8],
@@ -72,7 +72,7 @@ fn number_of<K: Drop>(cut: K, how: Number, bytes: &[u8]) -> Result<(u16, &[u8]),
 }
 
 /// A frame, whose items are read by a reader of types. A type byte that is reserved is `reserved`, at that byte.
-#[tactic(auto, unfolding(crate::specs::jmaps::Frames::frame))]
+#[tactic(auto, unfolding(crate::specs::jmaps::StackMapFormat::frame))]
 pub fn frame_of<'a, R: Reader<Item = MapType>>(
     alloc: Global,
     types: &R,
@@ -132,7 +132,7 @@ where
 }
 
 /// The frames that are all of a text, behind their number. Bytes behind the last frame are `trailing`, at the first of them.
-#[tactic(auto, unfolding(crate::specs::jmaps::Frames::frames))]
+#[tactic(auto, unfolding(crate::specs::jmaps::StackMapFormat::frames))]
 pub fn frames_of<R: Reader<Item = MapType>>(
     alloc: Global,
     types: &R,
@@ -159,7 +159,7 @@ const KINDS: Kinds<MapFault> = Kinds {
     trailing: MapFault::Trailing,
 };
 
-#[tactic(auto, unfolding(crate::specs::jmaps::Frames::maps))]
+#[tactic(auto, unfolding(crate::specs::jmaps::StackMapFormat::maps))]
 fn all_of(alloc: Global, bytes: &[u8]) -> Result<Seq<RawFrame>, ReadError<MapFault>>
     ensures { Gives (λ x. x) result (maps.read bytes.now) }
 {

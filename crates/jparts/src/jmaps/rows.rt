@@ -1,5 +1,5 @@
 ghost use Rattle.std.specs.Prelude.{◌≡◌};
-ghost use Rattle.jparts.specs.jmaps.Frames.{row};
+ghost use Rattle.jparts.specs.jmaps.StackMapFormat.{row};
 
 use crate::jmaps::types::{Number, Row};
 
@@ -13,7 +13,7 @@ fn given(delta: Number, locals: u16, stack: u16) -> Row
     }
 }
 
-#[tactic(auto, unfolding(crate::specs::jmaps::Frames::row))]
+#[tactic(auto, unfolding(crate::specs::jmaps::StackMapFormat::row))]
 /// What a type byte says of the frame behind it, `None` exactly for 128 to 246, which are reserved.
 pub fn row_of(form: u8) -> Option<Row>
     ensures { result ≡ row form }

@@ -1,6 +1,6 @@
 ghost use Rattle.std.specs.Prelude.{◌≡◌, IfOk, IsTrue, OnErr};
-ghost use Rattle.jparts.specs.jmaps.Frames.{maps};
-ghost use Rattle.jparts.specs.jmaps.Steps.{GoesOn, next, opening};
+ghost use Rattle.jparts.specs.jmaps.StackMapFormat.{maps};
+ghost use Rattle.jparts.specs.jmaps.FrameExpansion.{GoesOn, next, opening};
 
 use crate::jmaps::fault::ExpandError;
 use crate::jmaps::locals::{follow, place_from};
@@ -21,7 +21,7 @@ pub struct Expansion<'a> {
 
 impl<'a> Model for Expansion<'a> {
     ghost use Rattle.std.specs.Prelude.{◌<◌, ◌+◌, ◌*◌, IfSome, length};
-    ghost use Rattle.jparts.specs.jmaps.Steps.{Expanded};
+    ghost use Rattle.jparts.specs.jmaps.FrameExpansion.{Expanded};
 
     ghost Value = { Expanded };
 

@@ -1,6 +1,6 @@
 ghost use Rattle.std.specs.Prelude.{◌≡◌, ◌++◌, ◌∷◌, [], IsTrue, OnOk, length, true};
 ghost use Rattle.std.specs.List.{flat_map};
-ghost use Rattle.jparts.specs.jmaps.Frames.{frame, map_kinds, map_type, maps, own_frame, own_type, part, row};
+ghost use Rattle.jparts.specs.jmaps.StackMapFormat.{frame, map_kinds, map_type, maps, own_frame, own_type, part, row};
 
 use crate::jmaps::rows::row_of;
 use crate::jmaps::types::{MapType, Number, RawFrame};
@@ -8,7 +8,7 @@ use jground::jbase::Seq;
 use jground::jformat::{Writer, put_counted, put_each, put_u8, put_u16};
 use std::alloc::{AllocError, Global};
 
-#[tactic(auto, unfolding(crate::specs::jmaps::Frames::map_type))]
+#[tactic(auto, unfolding(crate::specs::jmaps::StackMapFormat::map_type))]
 fn put_type(item: MapType, out: &mut Seq<u8>) -> Result<(), AllocError>
     ensures { OnOk result (out.new ≡ out.old ++ own_type.spell item) }
 {
@@ -61,7 +61,7 @@ fn put_number(how: Number, n: usize, out: &mut Seq<u8>) -> Result<(), AllocError
 }
 
 /// Writes a frame as it stands.
-#[tactic(auto, unfolding(crate::specs::jmaps::Frames::frame))]
+#[tactic(auto, unfolding(crate::specs::jmaps::StackMapFormat::frame))]
 pub fn put_frame(alloc: Global, one: &RawFrame, out: &mut Seq<u8>) -> Result<(), AllocError>
     requires { IsTrue (own_frame.fits one.now) }
     ensures { OnOk result (out.new ≡ out.old ++ own_frame.spell one.now) }
@@ -95,7 +95,7 @@ impl Writer for FrameWriter {
 }
 
 /// Writes frames as they stand, behind their number: the content of a StackMapTable.
-#[tactic(auto, unfolding(crate::specs::jmaps::Frames::maps, crate::specs::jmaps::Frames::frames))]
+#[tactic(auto, unfolding(crate::specs::jmaps::StackMapFormat::maps, crate::specs::jmaps::StackMapFormat::frames))]
 pub fn put_frames(alloc: Global, frames: &[RawFrame], out: &mut Seq<u8>) -> Result<(), AllocError>
     requires { IsTrue (maps.fits frames.now) }
     ensures { OnOk result (out.new ≡ out.old ++ maps.spell frames.now) }

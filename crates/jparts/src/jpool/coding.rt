@@ -1,7 +1,7 @@
 ghost use Rattle.std.specs.Prelude.{◌≡◌, ◌≤◌, ◌∷◌, ◌++◌, IsTrue, OnOk, length};
-ghost use Rattle.jground.specs.jbase.Stops.{Gives};
-ghost use Rattle.jparts.specs.jpool.Adding.{has_spelling};
-ghost use Rattle.jparts.specs.jpool.Entries.{by_one, by_two, entry, i8, is_above, text as text_format, two, u2, u4, u8 as u8_format};
+ghost use Rattle.jground.specs.jbase.MemoryFailures.{Gives};
+ghost use Rattle.jparts.specs.jpool.EntryLayouts.{has_spelling};
+ghost use Rattle.jparts.specs.jpool.PoolEntries.{by_one, by_two, entry, i8, is_above, text as text_format, two, u2, u4, u8 as u8_format};
 ghost use Rattle.jparts.specs.ProofNames.{handle};
 
 use crate::jpool::entry::Entry;
@@ -62,7 +62,7 @@ fn named_two(tag: u8, one: u16, other: u16) -> Entry
 }
 
 /// An entry that names others, and the bytes behind it.
-#[tactic(auto, unfolding(crate::specs::jpool::Entries::entry))]
+#[tactic(auto, unfolding(crate::specs::jpool::PoolEntries::entry))]
 fn reference_of(bytes: &[u8]) -> Result<(Entry, &[u8]), ReadError<PoolFault>>
     requires { IsTrue (is_above 6 bytes.now) }
     ensures { Gives (λ x. (x.0, x.1.now)) result (entry.read bytes.now) }
@@ -86,7 +86,7 @@ fn reference_of(bytes: &[u8]) -> Result<(Entry, &[u8]), ReadError<PoolFault>>
 }
 
 /// An entry that has a spelling of its own, and the bytes behind it.
-#[tactic(auto, unfolding(crate::specs::jpool::Entries::entry))]
+#[tactic(auto, unfolding(crate::specs::jpool::PoolEntries::entry))]
 pub fn entry_of(alloc: Global, bytes: &[u8]) -> Result<(Entry, &[u8]), ReadError<PoolFault>>
     ensures { Gives (λ x. (x.0, x.1.now)) result (entry.read bytes.now) }
 {
@@ -164,7 +164,7 @@ fn put_handle(kind: u8, member: u16, out: &mut Seq<u8>) -> Result<(), AllocError
 }
 
 /// Writes an entry that has a spelling of its own: one that isn't `Unused`, and whose text has at most 65,535 bytes.
-#[tactic(auto, unfolding(crate::specs::jpool::Entries::entry))]
+#[tactic(auto, unfolding(crate::specs::jpool::PoolEntries::entry))]
 pub fn put_entry(one: &Entry, out: &mut Seq<u8>) -> Result<(), AllocError>
     requires { IsTrue (has_spelling one.now) }
     ensures fits { IsTrue (entry.fits one.now) }

@@ -3,9 +3,9 @@ ghost use Rattle.jparts.specs.declared.jpool.descriptor.DescError.TheVariants.{M
 ghost use Rattle.jparts.specs.declared.jpool.descriptor.Descriptor.{Descriptor};
 ghost use Rattle.jparts.specs.jpool.Descriptors;
 ghost use Rattle.jparts.specs.jpool.Descriptors.{Reads, descriptor_of, descriptor_text, field, is_well_formed, method, params_at};
-ghost use Rattle.jparts.specs.jpool.Pieces.{piece};
+ghost use Rattle.jparts.specs.jpool.FieldTypes.{piece};
 
-use crate::jpool::scan::{Piece, closing_of, piece_of, return_of, slots_in, type_of};
+use crate::jpool::scan::{ScannedType, closing_of, piece_of, return_of, slots_in, type_of};
 use jground::jbase::Seq;
 use std::alloc::{AllocError, AllocFailed, Global};
 
@@ -54,7 +54,7 @@ impl<T: Drop> From<AllocFailed<T>> for DescError {
     }
 }
 
-fn owned(alloc: Global, one: Piece<'_>) -> Result<FieldType, AllocError>
+fn owned(alloc: Global, one: ScannedType<'_>) -> Result<FieldType, AllocError>
     ensures { IfOk result (λ t. t ≡ piece one.entry) }
 {
     Ok(FieldType {
@@ -96,7 +96,10 @@ pub fn slots_of(types: &[FieldType]) -> usize
     count
 }
 
-fn owned_return(alloc: Global, ret: Option<Piece<'_>>) -> Result<Option<FieldType>, AllocError>
+fn owned_return(
+    alloc: Global,
+    ret: Option<ScannedType<'_>>,
+) -> Result<Option<FieldType>, AllocError>
     ensures { IfOk result (λ t. t ≡ option_map piece ret.entry) }
 {
     match ret {

@@ -1,6 +1,6 @@
 ghost use Rattle.std.specs.Prelude.{◌≡◌, IfOk};
 
-use jground::jbase::{Again, Seq};
+use jground::jbase::{Seq, TryClone};
 use std::alloc::{AllocError, Global};
 
 /// An entry of the constant pool (JVMS 4.4). Numbers are indices of other entries, unless said otherwise.
@@ -64,7 +64,7 @@ impl Entry {
     }
 }
 
-impl Again for Entry {
+impl TryClone for Entry {
     fn again(&self, alloc: Global) -> Result<Entry, AllocError> {
         self.copy(alloc)
     }

@@ -1,4 +1,4 @@
-use jground::jbase::Stop;
+use jground::jbase::FaultOrMemory;
 use jground::jformat::At;
 
 /// What is wrong in a pool's bytes.
@@ -18,4 +18,4 @@ pub enum PoolFault {
 
 /// Why bytes gave no pool: a fault and the offset of its first byte, or want of memory, which may come at any time, and comes
 /// where an offset has more than 32 bits.
-pub type PoolError = Stop<At<PoolFault>>;
+pub type PoolError = FaultOrMemory<At<PoolFault>>;

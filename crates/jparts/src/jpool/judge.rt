@@ -1,24 +1,24 @@
 ghost use Rattle.std.specs.Prelude.{◌≡◌, ◌&&◌, Option};
 ghost use Rattle.jparts.specs.declared.jpool.entry.Entry.{Entry};
-ghost use Rattle.jparts.specs.jpool.Entries.{size};
+ghost use Rattle.jparts.specs.jpool.PoolEntries.{size};
 ghost use Rattle.jground.specs.jformat.Format.{unless};
 ghost use Rattle.jparts.specs.declared.jpool.fault.PoolFault.TheVariants as faults;
-ghost use Rattle.jparts.specs.jpool.Pools;
-ghost use Rattle.jparts.specs.jpool.Pools.{first_fault, is_class, is_name_and_type};
+ghost use Rattle.jparts.specs.jpool.ConstantPools;
+ghost use Rattle.jparts.specs.jpool.ConstantPools.{first_fault, is_class, is_name_and_type};
 
 use crate::jpool::entry::Entry;
 use crate::jpool::fault::PoolFault;
 use crate::jpool::fault::PoolFault::BadIndex;
 use jground::jformat::Fault;
 
-#[tactic(auto, unfolding(crate::specs::jpool::Pools::is_utf8))]
+#[tactic(auto, unfolding(crate::specs::jpool::ConstantPools::is_utf8))]
 pub fn is_utf8(entries: &[Entry], i: u16) -> bool
-    ensures { result ≡ Pools.is_utf8 entries.now i }
+    ensures { result ≡ ConstantPools.is_utf8 entries.now i }
 {
     matches!(entries.get(usize::from(i)), Some(Entry::Utf8(_)))
 }
 
-#[tactic(auto, unfolding(crate::specs::jpool::Pools::is_class, crate::specs::jpool::Pools::is_name_and_type))]
+#[tactic(auto, unfolding(crate::specs::jpool::ConstantPools::is_class, crate::specs::jpool::ConstantPools::is_name_and_type))]
 pub fn is_member(entries: &[Entry], class: u16, both: u16) -> bool
     ensures { result ≡ is_class entries.now class && is_name_and_type entries.now both }
 {
@@ -35,7 +35,7 @@ pub fn unless_good(good: bool) -> Option<PoolFault>
 }
 
 /// The number of bytes of an entry.
-#[tactic(auto, unfolding(crate::specs::jpool::Entries::size, crate::specs::jpool::Entries::entry))]
+#[tactic(auto, unfolding(crate::specs::jpool::PoolEntries::size, crate::specs::jpool::PoolEntries::entry))]
 fn size_of(one: &Entry) -> usize
     ensures { result ≡ size one.now }
 {

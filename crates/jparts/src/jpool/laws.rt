@@ -3,7 +3,7 @@ ghost use Rattle.jground.specs.declared.jformat.error.Fault.{Fault};
 ghost use Rattle.jground.specs.jformat.Format.{IsBytes};
 ghost use Rattle.jparts.specs.declared.jpool.entry.Entry.{Entry};
 ghost use Rattle.jparts.specs.declared.jpool.fault.PoolFault.{PoolFault};
-ghost use Rattle.jparts.specs.jpool.Pools.{Spells, pool};
+ghost use Rattle.jparts.specs.jpool.ConstantPools.{Spells, pool};
 
 /// The laws of pools: bytes begin with the spelling of one pool at most, and a pool has one spelling; bytes begin with the
 /// spelling of a pool exactly where reading them finds no fault; and a fault stands within the bytes.

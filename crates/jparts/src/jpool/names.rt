@@ -1,8 +1,8 @@
 ghost use Rattle.std.specs.Prelude.{◌≡◌};
-ghost use Rattle.jparts.specs.jpool.Names;
+ghost use Rattle.jparts.specs.jpool.ClassNames;
 
 fn is_name_byte(b: u8) -> bool
-    ensures { result ≡ Names.is_name_byte b }
+    ensures { result ≡ ClassNames.is_name_byte b }
 {
     b != b'.' && b != b';' && b != b'['
 }
@@ -10,7 +10,7 @@ fn is_name_byte(b: u8) -> bool
 /// Whether a text is a class name: one or more parts joined by `/`, each of one or more bytes other than `.`, `;` and `[`
 /// (JVMS 4.2.1).
 pub fn is_class_name(text: &[u8]) -> bool
-    ensures { result ≡ Names.is_class_name text.now }
+    ensures { result ≡ ClassNames.is_class_name text.now }
 {
     let mut begun = false;
     for b in text {

@@ -1,9 +1,9 @@
 ghost use Rattle.std.specs.Prelude.{◌≡◌, ◌++◌, ◌+◌, ℕ, List, IfOk, IsSome, IsTrue, Ok, OnErr, OnOk, drop, length, option_and_then, option_map, slice_get};
 ghost use Rattle.jparts.specs.declared.jpool.entry.Entry.{Entry};
-ghost use Rattle.jparts.specs.jpool.Adding.{laid};
-ghost use Rattle.jparts.specs.jpool.Pools;
-ghost use Rattle.jparts.specs.jpool.Pools.{IsPool, class_name_at, is_class, is_name_and_type, is_utf8, name_and_type_at, utf8_at};
-ghost use Rattle.jparts.specs.jpool.Entries.{class_parts};
+ghost use Rattle.jparts.specs.jpool.EntryLayouts.{laid};
+ghost use Rattle.jparts.specs.jpool.ConstantPools;
+ghost use Rattle.jparts.specs.jpool.ConstantPools.{IsPool, class_name_at, is_class, is_name_and_type, is_utf8, name_and_type_at, utf8_at};
+ghost use Rattle.jparts.specs.jpool.PoolEntries.{class_parts};
 
 use crate::jpool::entry::Entry;
 use crate::jpool::slots::is_wide;
@@ -21,7 +21,7 @@ pub struct Pool {
 impl Model for Pool {
     ghost use Rattle.std.specs.Prelude.{List};
     ghost use Rattle.jparts.specs.declared.jpool.entry.Entry.{Entry};
-    ghost use Rattle.jparts.specs.jpool.Pools.{IsPool};
+    ghost use Rattle.jparts.specs.jpool.ConstantPools.{IsPool};
 
     ghost Value = { List Entry };
 
@@ -31,7 +31,7 @@ impl Model for Pool {
 }
 
 /// The text at an index.
-#[tactic(auto, unfolding(crate::specs::jpool::Pools::utf8_at))]
+#[tactic(auto, unfolding(crate::specs::jpool::ConstantPools::utf8_at))]
 pub fn text_of(entries: &[Entry], i: u16) -> Option<&[u8]>
     ensures { option_map (λ text. text.now) result ≡ utf8_at entries.now i }
 {
@@ -52,7 +52,7 @@ pub fn name_of(entries: &[Entry], i: u16) -> Option<u16>
 }
 
 /// The indices of the name and of the descriptor at an index.
-#[tactic(auto, unfolding(crate::specs::jpool::Pools::name_and_type_at))]
+#[tactic(auto, unfolding(crate::specs::jpool::ConstantPools::name_and_type_at))]
 fn both_of(entries: &[Entry], i: u16) -> Option<(u16, u16)>
     ensures { result ≡ name_and_type_at entries.now i }
 {
@@ -119,7 +119,7 @@ impl Pool {
     }
 
     /// The bytes of the text that the class at an index names. None exactly where no `Class` is there.
-    #[tactic(auto, unfolding(crate::specs::jpool::Pools::class_name_at))]
+    #[tactic(auto, unfolding(crate::specs::jpool::ConstantPools::class_name_at))]
     pub fn class_name(&self, i: u16) -> Option<&[u8]>
         ensures text { option_map (λ text. text.now) result ≡ class_name_at self.now i }
         ensures class { IsTrue (is_class self.now i) → IsSome result }

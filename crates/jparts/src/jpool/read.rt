@@ -1,9 +1,9 @@
 ghost use Rattle.std.specs.Prelude.{◌≡◌, ◌++◌, ◌+◌, ℕ, List, IfOk, IsTrue, Ok, drop, length};
-ghost use Rattle.jground.specs.jbase.Stops.{Gives};
-ghost use Rattle.jground.specs.jformat.Places.{GivesAt};
+ghost use Rattle.jground.specs.jbase.MemoryFailures.{Gives};
+ghost use Rattle.jground.specs.jformat.FaultOffsets.{GivesAt};
 ghost use Rattle.jparts.specs.declared.jpool.entry.Entry.{Entry};
-ghost use Rattle.jparts.specs.jpool.Pools;
-ghost use Rattle.jparts.specs.jpool.Pools.{Spells, behind_pool, entry_fault, first_fault};
+ghost use Rattle.jparts.specs.jpool.ConstantPools;
+ghost use Rattle.jparts.specs.jpool.ConstantPools.{Spells, behind_pool, entry_fault, first_fault};
 
 use crate::jpool::entry::Entry;
 use crate::jpool::fault::{PoolError, PoolFault};
@@ -11,7 +11,7 @@ use crate::jpool::judge::first_fault_of;
 use crate::jpool::pool::Pool;
 use crate::jpool::slots::{entries_of, put_entries};
 use crate::jpool::uses::TextUses;
-use jground::jbase::{Seq, Stop};
+use jground::jbase::{FaultOrMemory, Seq};
 use jground::jformat::{Fault, ReadError, stop_at};
 use std::alloc::{AllocError, Global};
 
@@ -29,14 +29,14 @@ fn fault_in(
 }
 
 /// A pool at the front of bytes, and the bytes behind it.
-#[tactic(auto, unfolding(crate::specs::jpool::Pools::pool))]
+#[tactic(auto, unfolding(crate::specs::jpool::ConstantPools::pool))]
 pub fn pool_of(alloc: Global, bytes: &[u8]) -> Result<(Pool, &[u8]), ReadError<PoolFault>>
-    ensures { Gives (λ x. (x.0, x.1.now)) result (Pools.pool.read bytes.now) }
+    ensures { Gives (λ x. (x.0, x.1.now)) result (ConstantPools.pool.read bytes.now) }
 {
     let (entries, rest) = entries_of(alloc, bytes)?;
     let left = bytes.len().saturating_sub(2);
     if let Some(fault) = fault_in(alloc, entries.as_slice(), left)? {
-        return Err(Stop::Fault(fault));
+        return Err(FaultOrMemory::Fault(fault));
     }
     Ok((Pool::from_entries(entries), rest))
 }
@@ -65,10 +65,10 @@ pub fn read_pool(alloc: Global, bytes: &[u8], at: u32) -> Result<(Pool, u32), Po
     // What is spelled so is read, unless memory runs out.
     ensures only { (entries : List Entry) (rest : List ℕ) → Spells (drop at bytes.now) entries rest → GivesAt (λ r. r) bytes.now result (Ok (entries, behind_pool at entries)) }
     // Which fault it is, and where.
-    ensures exact { GivesAt (λ r. (r.0, drop r.1 bytes.now)) bytes.now result (Pools.pool.read (drop at bytes.now)) }
+    ensures exact { GivesAt (λ r. (r.0, drop r.1 bytes.now)) bytes.now result (ConstantPools.pool.read (drop at bytes.now)) }
 {
     if bytes.len() > u32::MAX as usize {
-        return Err(Stop::Memory);
+        return Err(FaultOrMemory::Memory);
     }
     match pool_of(alloc, behind(bytes, at)) {
         Ok((pool, rest)) => Ok((pool, (bytes.len() - rest.len()) as u32)),
@@ -77,9 +77,9 @@ pub fn read_pool(alloc: Global, bytes: &[u8], at: u32) -> Result<(Pool, u32), Po
 }
 
 /// The bytes that spell a pool.
-#[tactic(auto, unfolding(crate::specs::jpool::Pools::pool))]
+#[tactic(auto, unfolding(crate::specs::jpool::ConstantPools::pool))]
 pub fn write_pool(alloc: Global, pool: &Pool) -> Result<Vec<u8>, AllocError>
-    ensures { IfOk result (λ text. text.items ≡ Pools.pool.spell pool.now) }
+    ensures { IfOk result (λ text. text.items ≡ ConstantPools.pool.spell pool.now) }
 {
     let mut out = Seq::new(alloc);
     put_entries(alloc, pool.entries(), &mut out)?;

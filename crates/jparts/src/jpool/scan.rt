@@ -3,13 +3,13 @@ ghost use Rattle.std.specs.List.{position, prefix_len};
 ghost use Rattle.jparts.specs.jpool.Descriptors;
 ghost use Rattle.jparts.specs.jpool.Descriptors.{class_at, base_at, type_at, return_at, closing_at, slots_at, is_bracket, is_semicolon};
 ghost use Rattle.jparts.specs.ProofNames.{slots_of_type};
-ghost use Rattle.jparts.specs.jpool.Pieces.{piece};
+ghost use Rattle.jparts.specs.jpool.FieldTypes.{piece};
 
 use crate::jpool::names::is_class_name;
 
 /// A field type in a text.
 #[derive(Clone, Copy)]
-pub struct Piece<'a> {
+pub struct ScannedType<'a> {
     pub depth: u32,
     pub base: u8,
     pub class: &'a [u8],
@@ -72,7 +72,7 @@ fn brackets_of(text: &[u8]) -> usize
 
 /// A field type at the front of a text, and the rest.
 #[tactic(auto, unfolding(crate::specs::jpool::Descriptors::type_at))]
-pub fn type_of(text: &[u8]) -> Option<(Piece<'_>, &[u8])>
+pub fn type_of(text: &[u8]) -> Option<(ScannedType<'_>, &[u8])>
     ensures { option_map (λ x. (piece x.0, x.1.now)) result ≡ type_at text.now }
 {
     let depth = brackets_of(text);
@@ -82,7 +82,7 @@ pub fn type_of(text: &[u8]) -> Option<(Piece<'_>, &[u8])>
         return None;
     }
     Some((
-        Piece {
+        ScannedType {
             depth: depth as u32,
             base,
             class,
@@ -93,7 +93,7 @@ pub fn type_of(text: &[u8]) -> Option<(Piece<'_>, &[u8])>
 
 /// What is returned, at the front of a text, and the rest.
 #[tactic(auto, unfolding(crate::specs::jpool::Descriptors::return_at))]
-pub fn return_of(text: &[u8]) -> Option<(Option<Piece<'_>>, &[u8])>
+pub fn return_of(text: &[u8]) -> Option<(Option<ScannedType<'_>>, &[u8])>
     ensures { option_map (λ x. (option_map piece x.0, x.1.now)) result ≡ return_at text.now }
 {
     match text {
@@ -108,7 +108,7 @@ pub fn return_of(text: &[u8]) -> Option<(Option<Piece<'_>>, &[u8])>
 
 /// The field type that all of a text is.
 #[tactic(auto, unfolding(crate::specs::jpool::Descriptors::field_of))]
-pub fn piece_of(text: &[u8]) -> Option<Piece<'_>>
+pub fn piece_of(text: &[u8]) -> Option<ScannedType<'_>>
     ensures { option_map piece result ≡ Descriptors.field_of text.now }
 {
     let (one, rest) = type_of(text)?;

@@ -1,7 +1,7 @@
 ghost use Rattle.std.specs.Prelude.{◌≡◌, ◌++◌, IsTrue, OnOk};
-ghost use Rattle.jground.specs.jbase.Stops.{Gives};
-ghost use Rattle.jparts.specs.jpool.Entries;
-ghost use Rattle.jparts.specs.jpool.Entries.{begins_wide, narrow, next_slot, shape, slot};
+ghost use Rattle.jground.specs.jbase.MemoryFailures.{Gives};
+ghost use Rattle.jparts.specs.jpool.PoolEntries;
+ghost use Rattle.jparts.specs.jpool.PoolEntries.{begins_wide, narrow, next_slot, shape, slot};
 
 use crate::jpool::coding::{entry_of, put_entry};
 use crate::jpool::entry::Entry;
@@ -23,7 +23,7 @@ pub struct Slot {
 
 /// Whether an entry takes two indices.
 pub fn is_wide(one: &Entry) -> bool
-    ensures { result ≡ Entries.is_wide one.now }
+    ensures { result ≡ PoolEntries.is_wide one.now }
 {
     matches!(one, Entry::Long(_) | Entry::Double(_))
 }
@@ -34,7 +34,7 @@ fn begins_with_wide(bytes: &[u8]) -> bool
     matches!(bytes, [5 | 6, ..])
 }
 
-#[tactic(auto, unfolding(crate::specs::jpool::Entries::narrow))]
+#[tactic(auto, unfolding(crate::specs::jpool::PoolEntries::narrow))]
 fn narrow_of(alloc: Global, bytes: &[u8]) -> Result<(Entry, &[u8]), ReadError<PoolFault>>
     ensures { Gives (λ x. (x.0, x.1.now)) result (narrow.read bytes.now) }
 {
@@ -44,7 +44,7 @@ fn narrow_of(alloc: Global, bytes: &[u8]) -> Result<(Entry, &[u8]), ReadError<Po
     entry_of(alloc, bytes)
 }
 
-#[tactic(auto, unfolding(crate::specs::jpool::Entries::unused))]
+#[tactic(auto, unfolding(crate::specs::jpool::PoolEntries::unused))]
 fn slot_of(alloc: Global, place: Slot, bytes: &[u8]) -> Result<(Entry, &[u8]), ReadError<PoolFault>>
     ensures { Gives (λ x. (x.0, x.1.now)) result ((slot place).read bytes.now) }
 {
@@ -57,7 +57,7 @@ fn slot_of(alloc: Global, place: Slot, bytes: &[u8]) -> Result<(Entry, &[u8]), R
     entry_of(alloc, bytes)
 }
 
-#[tactic(auto, unfolding(crate::specs::jpool::Entries::unused, crate::specs::jpool::Entries::narrow), using(crate::proofs::JpoolProofs::Spelling::fits_spelling))]
+#[tactic(auto, unfolding(crate::specs::jpool::PoolEntries::unused, crate::specs::jpool::PoolEntries::narrow), using(crate::proofs::JpoolProofs::EntrySpellings::fits_spelling))]
 fn put_slot(place: Slot, one: &Entry, out: &mut Seq<u8>) -> Result<(), AllocError>
     requires { IsTrue ((slot place).fits one.now) }
     ensures { OnOk result (out.new ≡ out.old ++ (slot place).spell one.now) }
@@ -132,7 +132,7 @@ impl StateWriter for Slots {
 
 /// The entries of a pool by their indices, as far as their shape goes, and the bytes behind them: what stands at index 0
 /// and behind an entry of two indices is `Unused`. What the entries name isn't looked at.
-#[tactic(auto, unfolding(crate::specs::jpool::Entries::shape))]
+#[tactic(auto, unfolding(crate::specs::jpool::PoolEntries::shape))]
 pub fn entries_of(alloc: Global, bytes: &[u8]) -> Result<(Seq<Entry>, &[u8]), ReadError<PoolFault>>
     ensures { Gives (λ x. (x.0, x.1.now)) result (shape.read bytes.now) }
 {
@@ -146,7 +146,7 @@ pub fn entries_of(alloc: Global, bytes: &[u8]) -> Result<(Seq<Entry>, &[u8]), Re
 }
 
 /// Writes the entries of a pool.
-#[tactic(auto, unfolding(crate::specs::jpool::Entries::shape))]
+#[tactic(auto, unfolding(crate::specs::jpool::PoolEntries::shape))]
 pub fn put_entries(alloc: Global, entries: &[Entry], out: &mut Seq<u8>) -> Result<(), AllocError>
     requires { IsTrue (shape.fits entries.now) }
     ensures { OnOk result (out.new ≡ out.old ++ shape.spell entries.now) }

@@ -1,8 +1,8 @@
 ghost use Rattle.std.specs.Prelude.{◌≡◌, IfOk, Some, option_and_then, option_map};
-ghost use Rattle.jparts.specs.jpool.Pools;
-ghost use Rattle.jparts.specs.jpool.Pools.{class_name_at, descriptor_fault, name_fault, utf8_at};
-ghost use Rattle.jparts.specs.jpool.Entries.{utf8_parts};
-ghost use Rattle.jparts.specs.jpool.Uses.{use_in, use_of, uses_of};
+ghost use Rattle.jparts.specs.jpool.ConstantPools;
+ghost use Rattle.jparts.specs.jpool.ConstantPools.{class_name_at, descriptor_fault, name_fault, utf8_at};
+ghost use Rattle.jparts.specs.jpool.PoolEntries.{utf8_parts};
+ghost use Rattle.jparts.specs.jpool.PoolTextUses.{use_in, use_of, uses_of};
 
 use crate::jpool::entry::Entry;
 use crate::jpool::fault::PoolFault;
@@ -27,7 +27,7 @@ pub struct TextUse {
     pub slots: Option<usize>,
 }
 
-#[tactic(auto, unfolding(crate::specs::jpool::Uses::use_of))]
+#[tactic(auto, unfolding(crate::specs::jpool::PoolTextUses::use_of))]
 fn use_of(text: &[u8]) -> TextUse
     ensures { result ≡ use_of text.now }
 {
@@ -65,7 +65,7 @@ pub struct TextUses<'a> {
 impl<'a> Model for TextUses<'a> {
     ghost use Rattle.std.specs.Prelude.{◌≡◌, List};
     ghost use Rattle.jparts.specs.declared.jpool.entry.Entry.{Entry};
-    ghost use Rattle.jparts.specs.jpool.Uses.{uses_of};
+    ghost use Rattle.jparts.specs.jpool.PoolTextUses.{uses_of};
 
     ghost Value = { List Entry };
 
@@ -84,7 +84,7 @@ impl<'a> TextUses<'a> {
     }
 
     /// What the text at an index may be used as. None exactly where no `Utf8` is there.
-    #[tactic(auto, unfolding(crate::specs::jpool::Pools::utf8_at), using(crate::proofs::JpoolProofs::Tables::use_at))]
+    #[tactic(auto, unfolding(crate::specs::jpool::ConstantPools::utf8_at), using(crate::proofs::JpoolProofs::Tables::use_at))]
     pub fn text_use(&self, i: u16) -> Option<TextUse>
         ensures { result ≡ option_map use_of (utf8_at self.now i) }
     {
@@ -95,7 +95,7 @@ impl<'a> TextUses<'a> {
     }
 
     /// What the text that the class at an index names may be used as. None exactly where no `Class` is there that names one.
-    #[tactic(auto, unfolding(crate::specs::jpool::Pools::class_name_at))]
+    #[tactic(auto, unfolding(crate::specs::jpool::ConstantPools::class_name_at))]
     pub fn class_use(&self, i: u16) -> Option<TextUse>
         ensures { result ≡ option_map use_of (class_name_at self.now i) }
     {
@@ -103,7 +103,7 @@ impl<'a> TextUses<'a> {
         self.text_use(name)
     }
 
-    #[tactic(auto, unfolding(crate::specs::jpool::Uses::use_of))]
+    #[tactic(auto, unfolding(crate::specs::jpool::PoolTextUses::use_of))]
     fn name_fault_at(&self, i: u16) -> Option<PoolFault>
         ensures { result ≡ name_fault (utf8_at self.now i) }
     {
@@ -116,7 +116,7 @@ impl<'a> TextUses<'a> {
         Some(BadName)
     }
 
-    #[tactic(auto, unfolding(crate::specs::jpool::Uses::use_of, crate::specs::jpool::Descriptors::is_method_descriptor, crate::specs::jpool::Descriptors::method_slots))]
+    #[tactic(auto, unfolding(crate::specs::jpool::PoolTextUses::use_of, crate::specs::jpool::Descriptors::is_method_descriptor, crate::specs::jpool::Descriptors::method_slots))]
     fn descriptor_fault_at(&self, i: u16) -> Option<PoolFault>
         ensures { result ≡ descriptor_fault (utf8_at self.now i) }
     {
@@ -132,9 +132,9 @@ impl<'a> TextUses<'a> {
     /// What is wrong with what an entry names among all entries of its pool: an index that isn't there or is of another kind, a
     /// class's text that is neither a class name nor an array descriptor, or a member's descriptor that is none. What method
     /// handles, method types and dynamic calls name isn't looked at.
-    #[tactic(auto, unfolding(crate::specs::jpool::Pools::entry_fault))]
+    #[tactic(auto, unfolding(crate::specs::jpool::ConstantPools::entry_fault))]
     pub fn entry_fault(&self, one: &Entry) -> Option<PoolFault>
-        ensures { result ≡ Pools.entry_fault self.now one.now }
+        ensures { result ≡ ConstantPools.entry_fault self.now one.now }
     {
         match one {
             Entry::Class(name) => self.name_fault_at(*name),
@@ -159,7 +159,7 @@ impl<'a> TextUses<'a> {
 impl<'a> EntryTest for TextUses<'a> {
     type Kind = PoolFault;
 
-    ghost faults = { λ entries. Pools.entry_fault entries };
+    ghost faults = { λ entries. ConstantPools.entry_fault entries };
 
     fn fault_of(&self, one: &Entry) -> Option<PoolFault> {
         self.entry_fault(one)

@@ -2,13 +2,13 @@
 use Rattle.std.proofs.Common.{◌≡◌, ℕ, Bool, true, false, List, [], ◌∷◌, length, map, Option, Some, None, refl, ap, sym, ◌∙◌}
 use Rattle.std.specs.Prelude.{IsTrue, nat_lt, option_and_then, slice_get, codes, ◌||◌, ◌==◌, if◌then◌else◌}
 use Rattle.std.specs.List.{list_all, list_any}
-use Rattle.jground.specs.jbase.First.{fault_if, first_some, or_else}
+use Rattle.jground.specs.jbase.FirstFaults.{fault_if, first_some, or_else}
 use Rattle.jground.proofs.JbaseProofs.Firsts.{none_of}
 use Rattle.jground.specs.jformat.Format.{is_good, unless, ◌·◌}
-use Rattle.jground.proofs.JformatProofs.Steps.{first_true, second_true}
+use Rattle.jground.proofs.JformatProofs.ReadingSteps.{first_true, second_true}
 use Rattle.jparts.specs.declared.jpool.entry.Entry.{Entry}
 use Rattle.jparts.specs.declared.jpool.entry.Entry.TheVariants.{Class}
-use Rattle.jparts.specs.jpool.Pools.{class_name_at, is_class, utf8_at}
+use Rattle.jparts.specs.jpool.ConstantPools.{class_name_at, is_class, utf8_at}
 use Rattle.jparts.specs.declared.jcode.op.Handler.{Handler}
 use Rattle.jparts.specs.declared.jcode.op.Placed.{Placed}
 use Rattle.jclass.specs.declared.class.Attribute.{Attribute}
@@ -19,59 +19,59 @@ use Rattle.jclass.specs.declared.class.CodeAttribute.TheVariants as code
 use Rattle.jclass.specs.declared.class.CodeBody.{CodeBody}
 use Rattle.jclass.specs.declared.class.MemberInfo.{MemberInfo}
 use Rattle.jclass.specs.declared.fault.ClassFault.TheVariants.{Index}
-use Rattle.jclass.specs.Basics.{index, u2}
-use Rattle.jclass.specs.Codes.{handler, handler_parts, named_type, target_fault, maps_of, frames_in}
-use Rattle.jclass.specs.Rules.{names_caught}
-use Rattle.jclass.specs.Stored.{HasCode}
-use Rattle.jclass.proofs.Stored.{code_fits}
+use Rattle.jclass.specs.IndexFormats.{index, u2}
+use Rattle.jclass.specs.CodeFormat.{handler, handler_parts, named_type, target_fault, maps_of, frames_in}
+use Rattle.jclass.specs.FlagRules.{names_caught}
+use Rattle.jclass.specs.FileContents.{HasCode}
+use Rattle.jclass.proofs.FittingClasses.{code_fits}
 use Rattle.jparts.specs.declared.jmaps.types.FullFrame.{FullFrame}
 use Rattle.jparts.specs.declared.jmaps.types.MapType.{MapType}
 use Rattle.jparts.specs.declared.jmaps.types.MapType.TheVariants as items
 use Rattle.jparts.specs.declared.jmaps.types.RawFrame.{RawFrame}
-use Rattle.jparts.specs.jmaps.Frames.{map_type}
-use Rattle.jparts.specs.jmaps.Full.{expand_from, full_forms}
+use Rattle.jparts.specs.jmaps.StackMapFormat.{map_type}
+use Rattle.jparts.specs.jmaps.ExpandedFrames.{expand_from, full_forms}
 use Rattle.jmove.specs.declared.method.Expand.{Expand}
 use Rattle.jmove.specs.declared.naming.Security.TheVariants as security
-use Rattle.jmove.specs.Additions.{IsFront, with_body, ◌>>◌}
-use Rattle.jmove.specs.Frames.{moved_frame}
-use Rattle.jmove.specs.Lines.{place_of}
-use Rattle.jmove.specs.Moved.{context_local, lines, moved_by, moved_handler, prologue, setting}
-use Rattle.jmove.proofs.Growing.{body_grows, front_on}
-use Rattle.jprogram.specs.declared.fault.LinkKind.TheVariants.{LeftOut}
-use Rattle.jprogram.specs.Classes.{Program}
-use Rattle.jprogram.specs.Parts.{member_desc, or_empty, this_name}
-use Rattle.jmoveclass.specs.Beginning.{slots}
-use Rattle.jmoveclass.specs.Calls.{expands}
-use Rattle.jmoveclass.specs.Methods.{frames_of, maps_name, method_in, moved_maps, new_desc, with_code, with_first}
+use Rattle.jmove.specs.PoolAdditions.{IsFront, with_body, ◌>>◌}
+use Rattle.jmove.specs.MovedFrames.{moved_frame}
+use Rattle.jmove.specs.AssemblyLines.{place_of}
+use Rattle.jmove.specs.MethodExpansion.{context_local, lines, moved_by, moved_handler, prologue, setting}
+use Rattle.jmove.proofs.PoolGrowth.{body_grows, front_on}
+use Rattle.jresolution.specs.declared.jprogram.fault.LinkKind.TheVariants.{LeftOut}
+use Rattle.jresolution.specs.jprogram.ProgramClasses.{Program}
+use Rattle.jresolution.specs.jprogram.ClassFileParts.{member_desc, or_empty, this_name}
+use Rattle.jmoveclass.specs.EntryLocals.{slots}
+use Rattle.jmoveclass.specs.CallExpansion.{expands}
+use Rattle.jmoveclass.specs.MovedMembers.{frames_of, maps_name, method_in, moved_maps, new_desc, with_code, with_first}
 use Rattle.jmoveclass.specs.ProofNames.{or_no_frames, or_none}
-use Rattle.jmoveclass.proofs.Keeping.{good_is}
-use Rattle.jrewriting.proofs.JmovefileProofs.Bodying.{code_parts_of}
-use Rattle.jrewriting.proofs.JmovefileProofs.Calling.{named_in}
-use Rattle.jrewriting.proofs.JmovefileProofs.Framing.{RawItems, raw_items}
-use Rattle.jrewriting.proofs.JmovefileProofs.Mapping.{frames_there}
-use Rattle.jrewriting.proofs.JmovefileProofs.Pooling.{ops_named}
-use Rattle.jlinking.proofs.JlinkProofs.Having.{then_is}
+use Rattle.jmoveclass.proofs.DemandPreservation.{good_is}
+use Rattle.jrewriting.proofs.JmoveclassLawsProofs.CodeFormat.{code_parts_of}
+use Rattle.jrewriting.proofs.JmoveclassLawsProofs.CallReferences.{named_in}
+use Rattle.jrewriting.proofs.JmoveclassLawsProofs.FrameClasses.{RawItems, raw_items}
+use Rattle.jrewriting.proofs.JmoveclassLawsProofs.StackMaps.{frames_there}
+use Rattle.jrewriting.proofs.JmoveclassLawsProofs.PoolFormat.{ops_named}
+use Rattle.jlinking.proofs.JlinkProofs.PresentValues.{then_is}
 use Rattle.jlinking.specs.declared.jreferring.judged.ClassUse.{ClassUse}
 use Rattle.jlinking.specs.declared.jreferring.judged.Judged.{Judged}
-use Rattle.jlinking.specs.jreferring.Beginning.{first_frame_test}
-use Rattle.jlinking.specs.jreferring.Code.{body_test, frames_test, units_test}
-use Rattle.jlinking.specs.jreferring.Entries.{judge, judge_pool}
-use Rattle.jlinking.specs.jreferring.Operands.{class_use, operand_test}
-use Rattle.jlinking.specs.jreferring.Units.{attribute_test, class_at, frame_test, handler_test, is_barred, item_names, op_test}
+use Rattle.jlinking.specs.jreferring.InitialFrames.{first_frame_test}
+use Rattle.jlinking.specs.jreferring.CodeChecks.{body_test, frames_test, units_test}
+use Rattle.jlinking.specs.jreferring.PoolEntryMeanings.{judge, judge_pool}
+use Rattle.jlinking.specs.jreferring.ClassEntryUses.{class_use, operand_test}
+use Rattle.jlinking.specs.jreferring.CodeUnits.{attribute_test, class_at, frame_test, handler_test, is_barred, item_names, op_test}
 use Rattle.jlinking.specs.ProofNames.{class_in}
-use Rattle.jrewriting.specs.jrewrite.Program.{moved}
+use Rattle.jrewriting.specs.jrewrite.RewrittenPrograms.{moved}
 use Rattle.jrewriting.proofs.JrewriteProofs.Calls.{Known}
-use Rattle.jrewriting.proofs.JrewriteProofs.Coding.{class_stays, moved_good}
-use Rattle.jrewriting.proofs.JrewriteProofs.Declaring.{first_false, no_again, no_fault, or_join, second_false}
-use Rattle.jrewriting.proofs.JrewriteProofs.Handed.{Handed, first_good}
-use Rattle.jrewriting.proofs.JrewriteProofs.Items.{AllFull, AllName, AllRaw, Names, full_names, moved_full, names_on, raw_on, written_full}
-use Rattle.jrewriting.proofs.JrewriteProofs.Judging.{class_entry, class_kept, judged_at}
-use Rattle.jrewriting.proofs.JrewriteProofs.Membering.{none_or}
+use Rattle.jrewriting.proofs.JrewriteProofs.CodeNames.{class_stays, moved_good}
+use Rattle.jrewriting.proofs.JrewriteProofs.DeclarationChecks.{first_false, no_again, no_fault, or_join, second_false}
+use Rattle.jrewriting.proofs.JrewriteProofs.ParameterAccess.{Handed, first_good}
+use Rattle.jrewriting.proofs.JrewriteProofs.FrameItems.{AllFull, AllName, AllRaw, Names, full_names, moved_full, names_on, raw_on, written_full}
+use Rattle.jrewriting.proofs.JrewriteProofs.PoolEntries.{class_entry, class_kept, judged_at}
+use Rattle.jrewriting.proofs.JrewriteProofs.MemberPhase.{none_or}
 use Rattle.jrewriting.proofs.JrewriteProofs.Params.{Fits, context_fits}
-use Rattle.jrewriting.proofs.JrewriteProofs.Plainly.{is_plain}
-use Rattle.jrewriting.proofs.JrewriteProofs.Putting.{AreNumbered, IsBody, IsContext, IsSecurity, context_on, numbers_on, security_on}
-use Rattle.jrewriting.proofs.JrewriteProofs.Upward.{class_use_same}
-use Rattle.jparts.specs.jpool.Entries.{class_parts}
+use Rattle.jrewriting.proofs.JrewriteProofs.PlainPrograms.{is_plain}
+use Rattle.jrewriting.proofs.JrewriteProofs.PoolReferences.{AreNumbered, IsBody, IsContext, IsSecurity, context_on, numbers_on, security_on}
+use Rattle.jrewriting.proofs.JrewriteProofs.SupertypeChains.{class_use_same}
+use Rattle.jparts.specs.jpool.PoolEntries.{class_parts}
 
 -- ---- names for what definitions say in place
 

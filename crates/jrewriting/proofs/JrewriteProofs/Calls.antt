@@ -1,42 +1,42 @@
 -- Calls that stay as they are, and calls that are handed a context: what linking asks of them holds in the moved program.
 use Rattle.std.proofs.Common.{◌≡◌, ℕ, Bool, true, ◌&&◌, not, List, Option, Some, None, refl, ap, sym, ◌∙◌}
 use Rattle.std.specs.Prelude.{option_map, slice_get, ◌||◌}
-use Rattle.jground.specs.jbase.First.{fault_if}
+use Rattle.jground.specs.jbase.FirstFaults.{fault_if}
 use Rattle.jground.proofs.JbaseProofs.Firsts.{none_of}
 use Rattle.jparts.specs.declared.jpool.entry.Entry.{Entry}
 use Rattle.jparts.specs.jpool.Descriptors.{slots_of}
 use Rattle.jparts.specs.declared.jcode.names.CallOp.{CallOp}
 use Rattle.jclass.specs.declared.class.ClassParts.{ClassParts}
-use Rattle.jmove.specs.Additions.{IsFront}
+use Rattle.jmove.specs.PoolAdditions.{IsFront}
 use Rattle.jmove.specs.declared.method.Expand.TheVariants as kinds
-use Rattle.jmoveclass.proofs.Fronts.{at_front}
-use Rattle.jrewriting.proofs.JmovefileProofs.Referring.{reference}
-use Rattle.jprogram.specs.declared.fault.LinkKind.TheVariants.{LeftOut}
-use Rattle.jprogram.specs.declared.member.Member.{Member}
-use Rattle.jprogram.specs.declared.member.Member.TheVariants as members
-use Rattle.jprogram.specs.Classes.{Program}
-use Rattle.jprogram.specs.Members.{referred, resolve_method}
-use Rattle.jprogram.specs.Parts.{this_name}
+use Rattle.jmoveclass.proofs.PoolStability.{at_front}
+use Rattle.jrewriting.proofs.JmoveclassLawsProofs.AddedReferences.{reference}
+use Rattle.jresolution.specs.declared.jprogram.fault.LinkKind.TheVariants.{LeftOut}
+use Rattle.jresolution.specs.declared.jprogram.member.Member.{Member}
+use Rattle.jresolution.specs.declared.jprogram.member.Member.TheVariants as members
+use Rattle.jresolution.specs.jprogram.ProgramClasses.{Program}
+use Rattle.jresolution.specs.jprogram.MemberResolution.{referred, resolve_method}
+use Rattle.jresolution.specs.jprogram.ClassFileParts.{this_name}
 use Rattle.jlinking.specs.declared.jreferring.judged.MemberFacts.{MemberFacts}
 use Rattle.jlinking.specs.declared.jreferring.judged.MemberUse.{MemberUse}
-use Rattle.jlinking.specs.jreferring.Entries.{judge_pool}
-use Rattle.jlinking.specs.jreferring.References.{call_left_out_test, call_test, called_by_interface_test, called_test, facts_of, interface_test}
+use Rattle.jlinking.specs.jreferring.PoolEntryMeanings.{judge_pool}
+use Rattle.jlinking.specs.jreferring.ReferenceUses.{call_left_out_test, call_test, called_by_interface_test, called_test, facts_of, interface_test}
 use Rattle.jlinking.specs.ProofNames.{is_virtual, call_at, interface_call_at}
-use Rattle.jlinking.specs.jreferring.Units.{member_at, or_no_member}
-use Rattle.jmoveclass.specs.Calls.{calling}
-use Rattle.jrewriting.specs.jrewrite.Linking.{IsLinked}
-use Rattle.jrewriting.specs.jrewrite.Program.{moved}
-use Rattle.jrewriting.proofs.JrewriteProofs.Declaring.{first_false, no_again}
-use Rattle.jrewriting.proofs.JrewriteProofs.Judging.{Pair, desc_kept, owner_kept, says_on, use_same}
-use Rattle.jrewriting.proofs.JrewriteProofs.Keeping.{IsItself, methods_kept, unchanged}
-use Rattle.jrewriting.proofs.JrewriteProofs.Overriding.{AllMoving}
-use Rattle.jrewriting.proofs.JrewriteProofs.Plainly.{is_plain}
-use Rattle.jrewriting.proofs.JrewriteProofs.Resolving.{Finds, facts_same, method_finds}
-use Rattle.jrewriting.proofs.JrewriteProofs.Rooming.{AllFew}
+use Rattle.jlinking.specs.jreferring.CodeUnits.{member_at, or_no_member}
+use Rattle.jmoveclass.specs.CallExpansion.{calling}
+use Rattle.jrewriting.specs.jrewrite.LinkageLaws.{IsLinked}
+use Rattle.jrewriting.specs.jrewrite.RewrittenPrograms.{moved}
+use Rattle.jrewriting.proofs.JrewriteProofs.DeclarationChecks.{first_false, no_again}
+use Rattle.jrewriting.proofs.JrewriteProofs.PoolEntries.{Pair, desc_kept, owner_kept, says_on, use_same}
+use Rattle.jrewriting.proofs.JrewriteProofs.LibraryLookup.{IsItself, methods_kept, unchanged}
+use Rattle.jrewriting.proofs.JrewriteProofs.FinalOverrides.{AllMoving}
+use Rattle.jrewriting.proofs.JrewriteProofs.PlainPrograms.{is_plain}
+use Rattle.jrewriting.proofs.JrewriteProofs.MemberResolution.{Finds, facts_same, method_finds}
+use Rattle.jrewriting.proofs.JrewriteProofs.ParameterSlots.{AllFew}
 use Rattle.jrewriting.proofs.JrewriteProofs.Security.{IsPassing}
-use Rattle.jrewriting.proofs.JrewriteProofs.Sided.{same_stands}
+use Rattle.jrewriting.proofs.JrewriteProofs.MemberSides.{same_stands}
 use Rattle.jrewriting.proofs.JrewriteProofs.Targets.{Change, Target, call_use, change_few, change_more, change_slots, changed_desc, plain_owner, referred_is, sort_by, target_use}
-use Rattle.jrewriting.proofs.JrewriteProofs.Testing.{call_more, interface_more, one_more}
+use Rattle.jrewriting.proofs.JrewriteProofs.ReferenceChecks.{call_more, interface_more, one_more}
 
 -- ---- what stays
 

@@ -6,48 +6,48 @@ use Rattle.std.specs.Str.{byte, bytes_eq}
 use Rattle.std.proofs.lemmas.Bool.{cases_Bool}
 use Rattle.std.proofs.lemmas.Iterator.Adapters.{position_from-zero}
 use Rattle.std.proofs.lemmas.Slice.Eq.{bytes_eq-Decides}
-use Rattle.jground.specs.jbase.First.{fault_if, or_else}
-use Rattle.jground.proofs.JformatProofs.Steps.{first_true, second_true}
+use Rattle.jground.specs.jbase.FirstFaults.{fault_if, or_else}
+use Rattle.jground.proofs.JformatProofs.ReadingSteps.{first_true, second_true}
 use Rattle.jparts.specs.declared.jpool.descriptor.Descriptor.{Descriptor}
 use Rattle.jparts.specs.declared.jpool.descriptor.Descriptor.TheVariants as descriptors
 use Rattle.jparts.specs.declared.jpool.descriptor.FieldType.{FieldType}
 use Rattle.jparts.specs.jpool.Descriptors.{base_at, class_at, closing_at, descriptor_of, descriptor_text, field_of, is_base, is_class_sign, is_type, is_well_formed, method_of, params_at, return_at, slots_of, type_at, type_text}
-use Rattle.jparts.specs.jpool.Names.{is_class_name, is_part, is_slash}
-use Rattle.jparts.specs.jpool.Pools.{class_name_at}
-use Rattle.jparts.proofs.JpoolProofs.Spelled.{descriptor_again, descriptor_take}
+use Rattle.jparts.specs.jpool.ClassNames.{is_class_name, is_part, is_slash}
+use Rattle.jparts.specs.jpool.ConstantPools.{class_name_at}
+use Rattle.jparts.proofs.JpoolProofs.DescriptorTexts.{descriptor_again, descriptor_take}
 use Rattle.jclass.specs.declared.class.ClassParts.{ClassParts}
 use Rattle.jclass.specs.declared.class.MemberInfo.{MemberInfo}
-use Rattle.jclass.specs.Rules.{names_class, is_plain_class}
-use Rattle.jclass.specs.Stored.{IsIn}
-use Rattle.jlinking.specs.jmembers.Declares.{desc_left_out, desc_missing, param_left_out, text_left_out, text_missing, type_missing}
+use Rattle.jclass.specs.FlagRules.{names_class, is_plain_class}
+use Rattle.jclass.specs.FileContents.{IsIn}
+use Rattle.jlinking.specs.jmembers.MemberDeclarations.{desc_left_out, desc_missing, param_left_out, text_left_out, text_missing, type_missing}
 use Rattle.jlinking.specs.ProofNames.{return_left_out, return_missing}
-use Rattle.jprogram.specs.declared.fault.LinkKind.{LinkKind}
-use Rattle.jprogram.specs.declared.fault.LinkKind.TheVariants.{NoClass, NotAccessible}
-use Rattle.jprogram.specs.declared.part.CodePart.{CodePart}
-use Rattle.jprogram.specs.Classes.{Program, User, find, found_at, place_of}
-use Rattle.jprogram.specs.Members.{may_name}
-use Rattle.jprogram.specs.ProofNames.{is_public_at, return_reserved}
-use Rattle.jprogram.specs.Naming.{desc_reserved, member_reserved, text_reserved, type_reserved}
-use Rattle.jprogram.specs.Parts.{member_desc, or_empty, package_of, same_package, this_name}
-use Rattle.jprogram.specs.Supers.{is_missing}
-use Rattle.jlinking.specs.jreferring.Names.{array_or, class_test, class_type, is_array, type_named, type_test}
-use Rattle.jlinking.specs.jreferring.Operands.{class_use, is_barred_array}
-use Rattle.jprogram.specs.LeftOut.{is_context, is_floating}
-use Rattle.jmoveclass.specs.Beginning.{class_name, is_reference, params_in, params_of}
-use Rattle.jmoveclass.proofs.Stored.{is_method_of}
-use Rattle.jrewriting.proofs.JmovefileProofs.Texts.{good_types}
-use Rattle.jrewriting.specs.jrewrite.Linking.{IsLinked}
-use Rattle.jrewriting.specs.jrewrite.Program.{moved}
-use Rattle.jrewriting.proofs.JrewriteProofs.Declaring.{differ, first_false, no_fault, second_false}
-use Rattle.jrewriting.proofs.JrewriteProofs.Finding.{Named}
-use Rattle.jrewriting.proofs.JrewriteProofs.Handed.{may_name_type}
-use Rattle.jrewriting.proofs.JrewriteProofs.Items.{Holds}
-use Rattle.jrewriting.proofs.JrewriteProofs.Membering.{any_at, none_or, place_there}
-use Rattle.jrewriting.proofs.JrewriteProofs.Moving.{tested_at}
-use Rattle.jrewriting.proofs.JrewriteProofs.Plainly.{is_plain}
+use Rattle.jresolution.specs.declared.jprogram.fault.LinkKind.{LinkKind}
+use Rattle.jresolution.specs.declared.jprogram.fault.LinkKind.TheVariants.{NoClass, NotAccessible}
+use Rattle.jresolution.specs.declared.jprogram.part.CodePart.{CodePart}
+use Rattle.jresolution.specs.jprogram.ProgramClasses.{Program, User, find, found_at, place_of}
+use Rattle.jresolution.specs.jprogram.MemberResolution.{may_name}
+use Rattle.jresolution.specs.jprogram.ProofNames.{is_public_at, return_reserved}
+use Rattle.jresolution.specs.jprogram.NameChecks.{desc_reserved, member_reserved, text_reserved, type_reserved}
+use Rattle.jresolution.specs.jprogram.ClassFileParts.{member_desc, or_empty, package_of, same_package, this_name}
+use Rattle.jresolution.specs.jprogram.SuperChecks.{is_missing}
+use Rattle.jlinking.specs.jreferring.ClassNameAccess.{array_or, class_test, class_type, is_array, type_named, type_test}
+use Rattle.jlinking.specs.jreferring.ClassEntryUses.{class_use, is_barred_array}
+use Rattle.jresolution.specs.jprogram.UnsupportedTypes.{is_context, is_floating}
+use Rattle.jmoveclass.specs.EntryLocals.{class_name, is_reference, params_in, params_of}
+use Rattle.jmoveclass.proofs.MethodContents.{is_method_of}
+use Rattle.jrewriting.proofs.JmoveclassLawsProofs.Texts.{good_types}
+use Rattle.jrewriting.specs.jrewrite.LinkageLaws.{IsLinked}
+use Rattle.jrewriting.specs.jrewrite.RewrittenPrograms.{moved}
+use Rattle.jrewriting.proofs.JrewriteProofs.DeclarationChecks.{differ, first_false, no_fault, second_false}
+use Rattle.jrewriting.proofs.JrewriteProofs.ClassLookup.{Named}
+use Rattle.jrewriting.proofs.JrewriteProofs.ParameterAccess.{may_name_type}
+use Rattle.jrewriting.proofs.JrewriteProofs.FrameItems.{Holds}
+use Rattle.jrewriting.proofs.JrewriteProofs.MemberPhase.{any_at, none_or, place_there}
+use Rattle.jrewriting.proofs.JrewriteProofs.MovableClasses.{tested_at}
+use Rattle.jrewriting.proofs.JrewriteProofs.PlainPrograms.{is_plain}
 use Rattle.jrewriting.proofs.JrewriteProofs.Security.{IsPassing, context_lib, type_open}
-use Rattle.jrewriting.proofs.JrewriteProofs.Standing.{IsPlain, missing_name, plain_at, text_plain}
-use Rattle.jrewriting.proofs.JrewriteProofs.Upward.{type_test_same}
+use Rattle.jrewriting.proofs.JrewriteProofs.HierarchyPhases.{IsPlain, missing_name, plain_at, text_plain}
+use Rattle.jrewriting.proofs.JrewriteProofs.SupertypeChains.{type_test_same}
 
 -- ---- the types that class entries name
 

@@ -6,14 +6,14 @@ use Rattle.std.specs.Str.{bytes_eq}
 use Rattle.std.proofs.lemmas.List.Quantifiers.{position-Some}
 use Rattle.std.proofs.lemmas.Option.{slice_get-get_or}
 use Rattle.std.proofs.lemmas.Slice.Eq.{bytes_eq-Decides}
-use Rattle.jground.specs.jbase.First.{fault_if, first_some, or_else}
+use Rattle.jground.specs.jbase.FirstFaults.{fault_if, first_some, or_else}
 use Rattle.jground.proofs.JbaseProofs.Firsts.{none_fails, none_of}
-use Rattle.jground.proofs.JformatProofs.Steps.{first_true, second_true}
+use Rattle.jground.proofs.JformatProofs.ReadingSteps.{first_true, second_true}
 use Rattle.jparts.specs.declared.jpool.descriptor.Descriptor.{Descriptor}
 use Rattle.jparts.specs.declared.jpool.descriptor.Descriptor.TheVariants as descriptors
 use Rattle.jparts.specs.declared.jpool.descriptor.FieldType.{FieldType}
 use Rattle.jparts.specs.jpool.Descriptors.{base_at, class_at, closing_at, descriptor_of, field_of, is_class_sign, method_of, params_at, return_at, slots_of, type_at}
-use Rattle.jparts.specs.jpool.Names.{is_class_name}
+use Rattle.jparts.specs.jpool.ClassNames.{is_class_name}
 use Rattle.jparts.specs.declared.jcode.names.CallOp.TheVariants as callops
 use Rattle.jlib.specs.declared.side.Side.{Side}
 use Rattle.jlib.specs.declared.side.Side.TheVariants.{Passing}
@@ -22,31 +22,31 @@ use Rattle.jlib.specs.declared.classes.LibClass.TheVariants as lib
 use Rattle.jlib.specs.declared.calls.LibCall.TheVariants as call
 use Rattle.jlib.specs.declared.calls.RtCall.{RtCall}
 use Rattle.jlib.specs.declared.calls.RtCall.TheVariants as rt
-use Rattle.jlib.specs.Classes.{class_named}
-use Rattle.jlib.proofs.Found.{call_only, class_only}
+use Rattle.jlib.specs.LibraryClasses.{class_named}
+use Rattle.jlib.proofs.LibraryLookup.{call_only, class_only}
 use Rattle.jmove.specs.declared.naming.Security.{Security}
 use Rattle.jmove.specs.declared.naming.Security.TheVariants.{Enter, Check, Snapshot, Privileged, PrivilegedWith, PrivilegedLimited}
-use Rattle.jmove.specs.Additions.{security_name, security_type}
-use Rattle.jprogram.specs.declared.fault.LinkKind.{LinkKind}
-use Rattle.jprogram.specs.declared.fault.LinkKind.TheVariants.{BadUse, LeftOut, NoClass, NotAccessible, Twice}
-use Rattle.jprogram.specs.declared.member.Member.{Member}
-use Rattle.jprogram.specs.declared.member.Member.TheVariants.{LibMethod}
-use Rattle.jprogram.specs.declared.part.CodePart.{CodePart}
-use Rattle.jprogram.specs.Classes.{Class, Lib, Program, above_name, chain, find, found_at, holds, is_interface, is_public, known, onward, place_of, superinterfaces, up}
-use Rattle.jprogram.specs.Members.{init, is_static, lib_method, may_name, may_use, method_at, method_in, reach_of, resolve_method}
-use Rattle.jprogram.specs.Naming.{in_class, naming_fault, naming_test, reserved_test, stands_before, taken_test}
-use Rattle.jprogram.specs.Parts.{same_package, this_name}
-use Rattle.jprogram.specs.Supers.{is_missing}
+use Rattle.jmove.specs.PoolAdditions.{security_name, security_type}
+use Rattle.jresolution.specs.declared.jprogram.fault.LinkKind.{LinkKind}
+use Rattle.jresolution.specs.declared.jprogram.fault.LinkKind.TheVariants.{BadUse, LeftOut, NoClass, NotAccessible, Twice}
+use Rattle.jresolution.specs.declared.jprogram.member.Member.{Member}
+use Rattle.jresolution.specs.declared.jprogram.member.Member.TheVariants.{LibMethod}
+use Rattle.jresolution.specs.declared.jprogram.part.CodePart.{CodePart}
+use Rattle.jresolution.specs.jprogram.ProgramClasses.{Class, Lib, Program, above_name, chain, find, found_at, holds, is_interface, is_public, known, onward, place_of, superinterfaces, up}
+use Rattle.jresolution.specs.jprogram.MemberResolution.{init, is_static, lib_method, may_name, may_use, method_at, method_in, reach_of, resolve_method}
+use Rattle.jresolution.specs.jprogram.NameChecks.{in_class, naming_fault, naming_test, reserved_test, stands_before, taken_test}
+use Rattle.jresolution.specs.jprogram.ClassFileParts.{same_package, this_name}
+use Rattle.jresolution.specs.jprogram.SuperChecks.{is_missing}
 use Rattle.jlinking.specs.declared.jreferring.judged.MemberFacts.{MemberFacts}
 use Rattle.jlinking.specs.declared.jreferring.judged.MemberUse.{MemberUse}
 use Rattle.jlinking.specs.declared.jreferring.judged.Sort.TheVariants as sort
-use Rattle.jlinking.specs.jreferring.Looking.{named_use}
-use Rattle.jlinking.specs.jreferring.Names.{class_test, desc_test, return_test, type_named, type_test}
-use Rattle.jlinking.specs.jreferring.References.{access_test, call_left_out_test, call_test, call_use_test, called_test, facts_of, is_enter, member_use}
+use Rattle.jlinking.specs.jreferring.MemberLookUp.{named_use}
+use Rattle.jlinking.specs.jreferring.ClassNameAccess.{class_test, desc_test, return_test, type_named, type_test}
+use Rattle.jlinking.specs.jreferring.ReferenceUses.{access_test, call_left_out_test, call_test, call_use_test, called_test, facts_of, is_enter, member_use}
 use Rattle.jlinking.specs.ProofNames.{is_barred}
-use Rattle.jprogram.proofs.Standing.{in_none}
-use Rattle.jrewriting.proofs.JrewriteProofs.Declaring.{differ, first_false, no_again, no_fault, or_join}
-use Rattle.jrewriting.proofs.JrewriteProofs.Membering.{none_or}
+use Rattle.jresolution.proofs.JprogramProofs.ClassHeights.{in_none}
+use Rattle.jrewriting.proofs.JrewriteProofs.DeclarationChecks.{differ, first_false, no_again, no_fault, or_join}
+use Rattle.jrewriting.proofs.JrewriteProofs.MemberPhase.{none_or}
 
 -- ---- classes of the library, on the passing side
 

@@ -9,9 +9,9 @@ use Rattle.jlib.specs.declared.classes.PermissionClass.{PermissionClass}
 use Rattle.jlib.specs.declared.classes.PermissionClass.TheVariants as permission
 use Rattle.jlib.specs.declared.classes.Thrown.{Thrown}
 use Rattle.jlib.specs.declared.classes.Thrown.TheVariants as thrown
-use Rattle.jlib.specs.Classes.{among, class_named, name_of, permission_row, stands_on, thrown_row}
-use Rattle.jlib.proofs.Found.{class_found, class_only}
-use Rattle.jprogram.specs.Naming.{is_reserved}
+use Rattle.jlib.specs.LibraryClasses.{among, class_named, name_of, permission_row, stands_on, thrown_row}
+use Rattle.jlib.proofs.LibraryLookup.{class_found, class_only}
+use Rattle.jresolution.specs.jprogram.NameChecks.{is_reserved}
 
 thrown_both : (t : Thrown) (side : Side) → among (thrown_row t).sides side ≡ true
 thrown_both thrown.Throwable side = refl

@@ -5,7 +5,7 @@ use Rattle.std.specs.List.{flat_map, list_any}
 use Rattle.std.specs.Str.{byte}
 use Rattle.std.proofs.lemmas.Bool.{cases_Bool, leb-true}
 use Rattle.std.proofs.lemmas.Slice.Eq.{bytes_eq-Decides}
-use Rattle.jground.specs.jbase.First.{first_some}
+use Rattle.jground.specs.jbase.FirstFaults.{first_some}
 use Rattle.jground.proofs.JbaseProofs.Firsts.{none_of}
 use Rattle.jground.specs.jformat.Format.{is_good}
 use Rattle.jparts.specs.declared.jpool.descriptor.Descriptor.{Descriptor}
@@ -13,10 +13,10 @@ use Rattle.jparts.specs.declared.jpool.descriptor.Descriptor.TheVariants as desc
 use Rattle.jparts.specs.declared.jpool.descriptor.FieldType.{FieldType}
 use Rattle.jparts.specs.declared.jpool.entry.Entry.{Entry}
 use Rattle.jparts.specs.jpool.Descriptors.{base_at, class_at, closing_at, descriptor_of, descriptor_text, field_of, method, method_of, method_slots, params_at, return_at, return_text, slots_of, type_at, type_text}
-use Rattle.jparts.specs.jpool.Names.{is_class_name}
-use Rattle.jparts.specs.jpool.Pools as pools
-use Rattle.jparts.specs.jpool.Pools.{member_fault, name_and_type_at}
-use Rattle.jparts.proofs.JpoolProofs.Spelled.{descriptor_take}
+use Rattle.jparts.specs.jpool.ClassNames.{is_class_name}
+use Rattle.jparts.specs.jpool.ConstantPools as pools
+use Rattle.jparts.specs.jpool.ConstantPools.{member_fault, name_and_type_at}
+use Rattle.jparts.proofs.JpoolProofs.DescriptorTexts.{descriptor_take}
 use Rattle.jclass.specs.declared.class.ClassParts.{ClassParts}
 use Rattle.jclass.specs.declared.class.MemberInfo.{MemberInfo}
 use Rattle.jlib.specs.declared.side.Side.TheVariants.{Passing, Source}
@@ -24,57 +24,57 @@ use Rattle.jlib.specs.declared.calls.ControllerCall.TheVariants as controller
 use Rattle.jlib.specs.declared.calls.LibCall.{LibCall}
 use Rattle.jlib.specs.declared.calls.LibCall.TheVariants as calls
 use Rattle.jlib.specs.declared.calls.ThreadCall.TheVariants as thread
-use Rattle.jlib.specs.Calls as library
+use Rattle.jlib.specs.LibraryMembers as library
 use Rattle.jmove.specs.declared.method.Expand.TheVariants as kinds
-use Rattle.jmove.specs.Additions.{context_type, moved_descriptor}
-use Rattle.jprogram.specs.declared.member.Member.{Member}
-use Rattle.jprogram.specs.declared.member.Member.TheVariants as members
-use Rattle.jprogram.specs.declared.member.MethodId.{MethodId}
-use Rattle.jprogram.specs.declared.part.CodePart.{CodePart}
-use Rattle.jprogram.specs.Classes.{Program}
-use Rattle.jprogram.specs.Members.{desc_in, desc_of, is_static, looked_up, referred, resolve_method, user_is}
-use Rattle.jprogram.specs.Naming.{class_reserved, desc_reserved, is_reserved, names_reserved, text_reserved, type_reserved}
-use Rattle.jprogram.specs.ProofNames.{return_reserved}
-use Rattle.jprogram.specs.Parts as parts
-use Rattle.jprogram.specs.Parts.{member_desc, or_empty, text}
+use Rattle.jmove.specs.PoolAdditions.{context_type, moved_descriptor}
+use Rattle.jresolution.specs.declared.jprogram.member.Member.{Member}
+use Rattle.jresolution.specs.declared.jprogram.member.Member.TheVariants as members
+use Rattle.jresolution.specs.declared.jprogram.member.MethodId.{MethodId}
+use Rattle.jresolution.specs.declared.jprogram.part.CodePart.{CodePart}
+use Rattle.jresolution.specs.jprogram.ProgramClasses.{Program}
+use Rattle.jresolution.specs.jprogram.MemberResolution.{desc_in, desc_of, is_static, looked_up, referred, resolve_method, user_is}
+use Rattle.jresolution.specs.jprogram.NameChecks.{class_reserved, desc_reserved, is_reserved, names_reserved, text_reserved, type_reserved}
+use Rattle.jresolution.specs.jprogram.ProofNames.{return_reserved}
+use Rattle.jresolution.specs.jprogram.ClassFileParts as parts
+use Rattle.jresolution.specs.jprogram.ClassFileParts.{member_desc, or_empty, text}
 use Rattle.jlinking.specs.declared.jreferring.judged.Judged.TheVariants as judged
 use Rattle.jlinking.specs.declared.jreferring.judged.MemberFacts.{MemberFacts}
 use Rattle.jlinking.specs.declared.jreferring.judged.MemberUse.{MemberUse}
 use Rattle.jlinking.specs.declared.jreferring.judged.Sort.{Sort}
 use Rattle.jlinking.specs.declared.jreferring.judged.Sort.TheVariants as sort
-use Rattle.jlinking.specs.jreferring.Entries.{judge}
-use Rattle.jlinking.specs.jreferring.Looking.{named_use}
-use Rattle.jlinking.specs.jreferring.Names.{desc_test, is_array, return_test, type_named, type_test}
-use Rattle.jprogram.specs.LeftOut.{is_context}
-use Rattle.jlinking.specs.jreferring.References.{facts_of, gives_context, has_contexts, is_crossed, is_enter, member_use, misplaces_context}
-use Rattle.jlinking.specs.jreferring.Units.{member_at}
+use Rattle.jlinking.specs.jreferring.PoolEntryMeanings.{judge}
+use Rattle.jlinking.specs.jreferring.MemberLookUp.{named_use}
+use Rattle.jlinking.specs.jreferring.ClassNameAccess.{desc_test, is_array, return_test, type_named, type_test}
+use Rattle.jresolution.specs.jprogram.UnsupportedTypes.{is_context}
+use Rattle.jlinking.specs.jreferring.ReferenceUses.{facts_of, gives_context, has_contexts, is_crossed, is_enter, member_use, misplaces_context}
+use Rattle.jlinking.specs.jreferring.CodeUnits.{member_at}
 use Rattle.jlinking.specs.ProofNames.{member_in}
-use Rattle.jlinking.specs.jlink.Sound.{is_sound_method}
-use Rattle.jlinking.proofs.JlinkProofs.Declared.{method_resolved}
-use Rattle.jmoveclass.specs.Beginning.{params_in, params_of, slots}
+use Rattle.jlinking.specs.jlink.SoundDescriptors.{is_sound_method}
+use Rattle.jlinking.proofs.JlinkProofs.MemberDescriptors.{method_resolved}
+use Rattle.jmoveclass.specs.EntryLocals.{params_in, params_of, slots}
 use Rattle.jmoveclass.specs.ProofNames.{this_slots}
-use Rattle.jmoveclass.specs.Calls.{calling}
-use Rattle.jmoveclass.specs.Methods.{new_desc}
-use Rattle.jmoveclass.proofs.Short.{moved_short}
-use Rattle.jrewriting.proofs.JmovefileProofs.Calling.{kind_in, reference_of}
-use Rattle.jrewriting.proofs.JmovefileProofs.Referring.{reference}
-use Rattle.jrewriting.proofs.JmovefileProofs.Sound.{IsSound}
-use Rattle.jrewriting.proofs.JmovefileProofs.Texts.{longer, longer_slots, longer_well, moved_is}
-use Rattle.jrewriting.specs.jrewrite.Linking.{IsLinked}
-use Rattle.jrewriting.specs.jrewrite.Program.{moved}
-use Rattle.jrewriting.proofs.JrewriteProofs.Changing.{IsForm, changed, is_run, methods_changed}
-use Rattle.jrewriting.proofs.JrewriteProofs.Declaring.{Facts, differ, first_false, or_join, second_false}
-use Rattle.jrewriting.proofs.JrewriteProofs.Judging.{Says, desc_kept, judged_at, no_entry_fault, owner_kept, says_of, says_use}
-use Rattle.jrewriting.proofs.JrewriteProofs.Membering.{none_or}
-use Rattle.jrewriting.proofs.JrewriteProofs.Moving.{short_at}
-use Rattle.jrewriting.proofs.JrewriteProofs.Overriding.{AllMoving}
-use Rattle.jrewriting.proofs.JrewriteProofs.Plainly.{is_plain}
-use Rattle.jrewriting.proofs.JrewriteProofs.Resolving.{Is, facts_same, method_finds}
-use Rattle.jrewriting.proofs.JrewriteProofs.Rooming.{AllFew, called_room, library_desc, of_empty, resolved_desc}
+use Rattle.jmoveclass.specs.CallExpansion.{calling}
+use Rattle.jmoveclass.specs.MovedMembers.{new_desc}
+use Rattle.jmoveclass.proofs.TextLengths.{moved_short}
+use Rattle.jrewriting.proofs.JmoveclassLawsProofs.CallReferences.{kind_in, reference_of}
+use Rattle.jrewriting.proofs.JmoveclassLawsProofs.AddedReferences.{reference}
+use Rattle.jrewriting.proofs.JmoveclassLawsProofs.SoundPools.{IsSound}
+use Rattle.jrewriting.proofs.JmoveclassLawsProofs.Texts.{longer, longer_slots, longer_well, moved_is}
+use Rattle.jrewriting.specs.jrewrite.LinkageLaws.{IsLinked}
+use Rattle.jrewriting.specs.jrewrite.RewrittenPrograms.{moved}
+use Rattle.jrewriting.proofs.JrewriteProofs.ContextMethodLookup.{IsForm, changed, is_run, methods_changed}
+use Rattle.jrewriting.proofs.JrewriteProofs.DeclarationChecks.{Facts, differ, first_false, or_join, second_false}
+use Rattle.jrewriting.proofs.JrewriteProofs.PoolEntries.{Says, desc_kept, judged_at, no_entry_fault, owner_kept, says_of, says_use}
+use Rattle.jrewriting.proofs.JrewriteProofs.MemberPhase.{none_or}
+use Rattle.jrewriting.proofs.JrewriteProofs.MovableClasses.{short_at}
+use Rattle.jrewriting.proofs.JrewriteProofs.FinalOverrides.{AllMoving}
+use Rattle.jrewriting.proofs.JrewriteProofs.PlainPrograms.{is_plain}
+use Rattle.jrewriting.proofs.JrewriteProofs.MemberResolution.{Is, facts_same, method_finds}
+use Rattle.jrewriting.proofs.JrewriteProofs.ParameterSlots.{AllFew, called_room, library_desc, of_empty, resolved_desc}
 use Rattle.jrewriting.proofs.JrewriteProofs.Security.{IsPassing, type_lib, type_open}
-use Rattle.jrewriting.proofs.JrewriteProofs.Standing.{IsPlain}
-use Rattle.jrewriting.proofs.JrewriteProofs.Testing.{FewSlots, IsMore}
-use Rattle.jrewriting.proofs.JrewriteProofs.Upward.{extends_same, interface_name, named_plain, return_test_same, type_test_same, types_test_same}
+use Rattle.jrewriting.proofs.JrewriteProofs.HierarchyPhases.{IsPlain}
+use Rattle.jrewriting.proofs.JrewriteProofs.ReferenceChecks.{FewSlots, IsMore}
+use Rattle.jrewriting.proofs.JrewriteProofs.SupertypeChains.{extends_same, interface_name, named_plain, return_test_same, type_test_same, types_test_same}
 
 -- ---- a reference to a method
 

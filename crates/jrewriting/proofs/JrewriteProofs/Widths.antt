@@ -4,14 +4,14 @@ use Rattle.std.specs.Prelude.{nat_le, nat_lt, if◌then◌else◌}
 use Rattle.std.proofs.lemmas.List.{length-append}
 use Rattle.jparts.specs.declared.jmaps.types.MapType.{MapType}
 use Rattle.jparts.specs.declared.jmaps.types.MapType.TheVariants as items
-use Rattle.jparts.specs.jmaps.Full.{chopped, locals_after}
+use Rattle.jparts.specs.jmaps.ExpandedFrames.{chopped, locals_after}
 use Rattle.jtypes.specs.declared.vtype.VType.{VType}
-use Rattle.jtypes.specs.Frames.{is_long, places, places_of}
-use Rattle.jmove.specs.Frames.{widths}
+use Rattle.jtypes.specs.TypeFrames.{is_long, places, places_of}
+use Rattle.jmove.specs.MovedFrames.{widths}
 use Rattle.jmove.specs.ProofNames.{width}
 use Rattle.jparts.specs.declared.jpool.entry.Entry.{Entry}
-use Rattle.jprogram.specs.Classes.{Program}
-use Rattle.jtyping.specs.Declared.{item}
+use Rattle.jresolution.specs.jprogram.ProgramClasses.{Program}
+use Rattle.jtyping.specs.jwelltyped.DeclaredFrames.{item}
 
 -- place by place, in lists of one length
 abbrev pub Under : List MapType → List VType → Type 0

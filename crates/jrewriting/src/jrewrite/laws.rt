@@ -1,7 +1,7 @@
-ghost use Rattle.jrewriting.specs.jrewrite.Linking.{NamesStay, SupersStay};
-ghost use Rattle.jrewriting.specs.jrewrite.Members.{MembersStay};
-ghost use Rattle.jrewriting.specs.jrewrite.Parts.{PartsAreFiles};
-ghost use Rattle.jrewriting.specs.jrewrite.References.{CodeStays, LinksStay};
+ghost use Rattle.jrewriting.specs.jrewrite.LinkageLaws.{NamesStay, SupersStay};
+ghost use Rattle.jrewriting.specs.jrewrite.MemberLaws.{MembersStay};
+ghost use Rattle.jrewriting.specs.jrewrite.RewrittenParts.{PartsAreFiles};
+ghost use Rattle.jrewriting.specs.jrewrite.ReferenceLaws.{CodeStays, LinksStay};
 
 /// The laws of linking that moved programs keep: the first two of its phases find nothing.
 pub fn standing_laws()

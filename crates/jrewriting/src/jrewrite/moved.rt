@@ -1,12 +1,12 @@
 ghost use Rattle.std.specs.Prelude.{◌≡◌, MatchResult, None, Some, map, slice_get};
 ghost use Rattle.jlib.specs.declared.side.Side.TheVariants as sides;
-ghost use Rattle.jlinking.specs.jlink.Links.{Links};
-ghost use Rattle.jtyping.specs.Typing.{WellTyped};
-ghost use Rattle.jmeaning.specs.juses.Uses.{AreUses};
-ghost use Rattle.jmoveclass.specs.Limits.{ClassErrorIs, class_limit};
-ghost use Rattle.jmoveclass.specs.Moved.{moved_class};
-ghost use Rattle.jrewriting.specs.jrewrite.Program;
-ghost use Rattle.jrewriting.specs.jrewrite.Program.{RewriteErrorIs, seen_part};
+ghost use Rattle.jlinking.specs.jlink.LinkedPrograms.{Links};
+ghost use Rattle.jtyping.specs.jwelltyped.VerifierTests.{WellTyped};
+ghost use Rattle.jresolution.specs.juses.EntryUses.{AreUses};
+ghost use Rattle.jmoveclass.specs.ClassLimits.{ClassErrorIs, class_limit};
+ghost use Rattle.jmoveclass.specs.MovedClasses.{moved_class};
+ghost use Rattle.jrewriting.specs.jrewrite.RewrittenPrograms;
+ghost use Rattle.jrewriting.specs.jrewrite.RewrittenPrograms.{RewriteErrorIs, seen_part};
 
 use crate::jrewrite::error::RewriteError;
 use crate::jrewrite::part::MovedPart;
@@ -14,7 +14,7 @@ use jclass::ClassParts;
 use jground::jbase::Seq;
 use jlinking::jlink::LinkedProgram;
 use jmoveclass::{ClassError, Limit, Moving, moved_class};
-use jprogram::CodePart;
+use jresolution::jprogram::CodePart;
 use std::alloc::Global;
 
 /// The moved class of a part.
@@ -43,7 +43,7 @@ fn class_of(
 }
 
 fn error_at(class: u32, error: ClassError) -> RewriteError
-    ensures { result ≡ Program.error_at class error }
+    ensures { result ≡ RewrittenPrograms.error_at class error }
 {
     match error {
         ClassError::At(Limit { method, kind }) => RewriteError::At {
@@ -57,12 +57,12 @@ fn error_at(class: u32, error: ClassError) -> RewriteError
 
 /// The moved classes of a program of the source side that is well typed, in its order: those of the moved program. The error is `At`
 /// exactly where a limit is broken, and says the first: class by class, in each its methods in their order, and its pool last.
-#[tactic(auto, unfolding(jground::specs::jbase::First::first_along, crate::specs::jrewrite::Program::limits, crate::specs::jrewrite::Program::moved))]
+#[tactic(auto, unfolding(jground::specs::jbase::FirstFaults::first_along, crate::specs::jrewrite::RewrittenPrograms::limits, crate::specs::jrewrite::RewrittenPrograms::moved))]
 pub fn moved_parts(alloc: Global, p: &LinkedProgram) -> Result<Seq<MovedPart>, RewriteError>
     requires typed { WellTyped p.now }
     requires side { p.now.side ≡ sides.Source }
-    ensures { MatchResult result (λ parts. (Program.limits p.now ≡ None) × (map seen_part parts ≡ (Program.moved p.now).parts))
-        (RewriteErrorIs (Program.limits p.now)) }
+    ensures { MatchResult result (λ parts. (RewrittenPrograms.limits p.now ≡ None) × (map seen_part parts ≡ (RewrittenPrograms.moved p.now).parts))
+        (RewriteErrorIs (RewrittenPrograms.limits p.now)) }
 {
     let mut parts = Seq::new(alloc);
     for (i, part) in p.parts().iter().enumerate() {

@@ -1,12 +1,12 @@
 ghost use Rattle.std.specs.Prelude.{◌≡◌, All, IfOk, IsTrue, MatchResult, None, map};
 ghost use Rattle.jclass.specs.Class.{class_file};
 ghost use Rattle.jlib.specs.declared.side.Side.TheVariants as sides;
-ghost use Rattle.jrewriting.specs.jrewrite.Files;
-ghost use Rattle.jrewriting.specs.jrewrite.Files.{IsRewritten};
-ghost use Rattle.jrewriting.specs.jrewrite.Linking.{IsLinked};
-ghost use Rattle.jrewriting.specs.jrewrite.Program;
-ghost use Rattle.jrewriting.specs.jrewrite.Program.{RewriteErrorIs, seen_part};
-ghost use Rattle.jtyping.specs.Typing.{WellTyped};
+ghost use Rattle.jrewriting.specs.jrewrite.RewrittenFiles;
+ghost use Rattle.jrewriting.specs.jrewrite.RewrittenFiles.{IsRewritten};
+ghost use Rattle.jrewriting.specs.jrewrite.LinkageLaws.{IsLinked};
+ghost use Rattle.jrewriting.specs.jrewrite.RewrittenPrograms;
+ghost use Rattle.jrewriting.specs.jrewrite.RewrittenPrograms.{RewriteErrorIs, seen_part};
+ghost use Rattle.jtyping.specs.jwelltyped.VerifierTests.{WellTyped};
 
 use crate::jrewrite::error::RewriteError;
 use crate::jrewrite::laws::{link_law, part_laws};
@@ -16,7 +16,7 @@ use jclass::{ClassFile, write_class};
 use jground::jbase::Seq;
 use jlib::Side;
 use jlinking::jlink::{LinkedProgram, link_known};
-use jprogram::{CodePart, this_name};
+use jresolution::jprogram::{CodePart, this_name};
 use std::alloc::{AllocError, Global};
 
 // ---- the moved program
@@ -52,7 +52,7 @@ fn code_parts(alloc: Global, parts: Seq<MovedPart>) -> Result<Vec<CodePart>, All
 pub fn moved_program(alloc: Global, p: &LinkedProgram) -> Result<LinkedProgram, RewriteError>
     requires typed { WellTyped p.now }
     requires side { p.now.side ≡ sides.Source }
-    ensures moved { MatchResult result (λ q. (Program.limits p.now ≡ None) × (q ≡ Program.moved p.now)) (RewriteErrorIs (Program.limits p.now)) }
+    ensures moved { MatchResult result (λ q. (RewrittenPrograms.limits p.now ≡ None) × (q ≡ RewrittenPrograms.moved p.now)) (RewriteErrorIs (RewrittenPrograms.limits p.now)) }
     ensures rewritten { IfOk result IsRewritten }
     // The program that is moved links, and each of its parts is a class file.
     ensures linked { IsLinked p.now }
@@ -83,7 +83,7 @@ pub struct OutFile {
 
 /// A class file of a program, with the number of its code source and its name.
 fn out_file(alloc: Global, part: &CodePart) -> Result<OutFile, AllocError>
-    ensures { IfOk result (λ file. file ≡ Files.out_file part.now) }
+    ensures { IfOk result (λ file. file ≡ RewrittenFiles.out_file part.now) }
 {
     let name = Seq::from_slice(alloc, this_name(part.class.parts()))?;
     let bytes = write_class(alloc, &part.class)?;
@@ -96,7 +96,7 @@ fn out_file(alloc: Global, part: &CodePart) -> Result<OutFile, AllocError>
 
 /// Class files in their order.
 fn out_files(alloc: Global, parts: &[CodePart]) -> Result<Seq<OutFile>, AllocError>
-    ensures { IfOk result (λ files. files ≡ map Files.out_file parts.now) }
+    ensures { IfOk result (λ files. files ≡ map RewrittenFiles.out_file parts.now) }
 {
     let mut files = Seq::new(alloc);
     for part in parts {
@@ -106,9 +106,9 @@ fn out_files(alloc: Global, parts: &[CodePart]) -> Result<Seq<OutFile>, AllocErr
 }
 
 /// The class files of a program in its order: the bytes that spell each, with the number of its code source and its name.
-#[tactic(auto, unfolding(crate::specs::jrewrite::Files::files_of))]
+#[tactic(auto, unfolding(crate::specs::jrewrite::RewrittenFiles::files_of))]
 pub fn files_of(alloc: Global, p: &LinkedProgram) -> Result<Seq<OutFile>, AllocError>
-    ensures { IfOk result (λ files. files ≡ Files.files_of p.now) }
+    ensures { IfOk result (λ files. files ≡ RewrittenFiles.files_of p.now) }
 {
     out_files(alloc, p.parts())
 }

@@ -2,12 +2,12 @@
 use Rattle.std.proofs.Common.{◌≡◌, ℕ, ◌-◌, List, [], ap, arith}
 use Rattle.std.specs.Prelude.{nat_le, if◌then◌else◌, Result, Ok, Err, IfOk, OnOk}
 use Rattle.std.proofs.Math.Dec.{leb-zero}
-use Rattle.jrights.specs.declared.jtrace.event.Event.{Event}
-use Rattle.jmeaning.specs.juses.Instructions.{Instruction}
-use Rattle.jmodel.specs.jmachine.Acts.{FrameOf}
-use Rattle.jmodel.specs.jmachine.Store.{Store, paid}
-use Rattle.jmodel.specs.jstate.Framed.{Framed, with_newest}
-use Rattle.jrows.specs.jacts.Ways.{Does, leaves}
+use Rattle.joutput.specs.declared.jtrace.event.Event.{Event}
+use Rattle.jresolution.specs.juses.IndexedInstructions.{Instruction}
+use Rattle.jsemantics.specs.jmachine.MachineStates.{FrameOf}
+use Rattle.jsemantics.specs.jmachine.Store.{Store, paid}
+use Rattle.jruntime.specs.jstate.FrameLists.{Framed, with_newest}
+use Rattle.jrows.specs.jacts.RowOutcomes.{Does, leaves}
 use Rattle.jrows.specs.declared.jacts.way.Way.{Way}
 use Rattle.jrows.specs.declared.jacts.way.Way.TheVariants as ways
 

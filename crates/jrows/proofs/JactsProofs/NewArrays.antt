@@ -4,41 +4,41 @@ use Rattle.std.specs.Prelude.{IfOk, OnOk, Result, Ok, Err, nat_le, nat_lt, slice
 use Rattle.std.proofs.lemmas.Bool.{le-leb, lt-ltb}
 use Rattle.std.proofs.lemmas.List.{length-map}
 use Rattle.jparts.specs.declared.jcode.names.ArrayType.{ArrayType as ArrayKind}
-use Rattle.jparts.specs.declared.jcode.form.ArrayForm.TheVariants as forms
-use Rattle.jheap.specs.declared.cell.Kind.TheVariants as kinds
-use Rattle.jheap.specs.declared.cell.CellType.TheVariants as cells
-use Rattle.jheap.specs.Heaps.{Heaped, made}
-use Rattle.jheap.specs.Raw.{of_raw}
+use Rattle.jparts.specs.declared.jcode.op_form.ArrayForm.TheVariants as forms
+use Rattle.jmemory.specs.declared.jheap.cell.Kind.TheVariants as kinds
+use Rattle.jmemory.specs.declared.jheap.cell.CellType.TheVariants as cells
+use Rattle.jmemory.specs.jheap.Heaps.{Heaped, made}
+use Rattle.jmemory.specs.jheap.RawValues.{of_raw}
 use Rattle.jlib.specs.declared.classes.LibClass.{LibClass}
 use Rattle.jlib.specs.declared.classes.LibClass.TheVariants as lib
 use Rattle.jlib.specs.declared.classes.Thrown.TheVariants as thrown
-use Rattle.jground.specs.declared.jops.value.Value.TheVariants.{Ref}
-use Rattle.jprogram.specs.Classes.{Program}
-use Rattle.jmeaning.specs.jrule.Arrays.{component}
+use Rattle.jvalues.specs.declared.jops.value.Value.TheVariants.{Ref}
+use Rattle.jresolution.specs.jprogram.ProgramClasses.{Program}
+use Rattle.jtyping.specs.jrule.ArrayRule.{component}
 use Rattle.jtypes.specs.declared.vtype.ArrayType.{ArrayType}
-use Rattle.jtypes.specs.Described.{in_brackets}
-use Rattle.jmeaning.specs.declared.juses.types.ArrayRef.{ArrayRef}
-use Rattle.jmeaning.specs.declared.juses.types.ElementRef.{ElementRef}
-use Rattle.jmeaning.specs.declared.juses.types.ElementRef.TheVariants as elements
-use Rattle.jmeaning.specs.juses.Instructions as instructions
-use Rattle.jmeaning.specs.juses.Types.{array_named, element_named}
-use Rattle.jmodel.specs.jmachine.Acts.{FrameOf}
-use Rattle.jmodel.specs.jmachine.Arrays as rows
-use Rattle.jmodel.specs.jmachine.Doing.{doing}
-use Rattle.jmodel.specs.jmachine.Frames.{standing}
-use Rattle.jmodel.specs.jmachine.Narrowing.{default, place}
-use Rattle.jmodel.specs.jmachine.Objects.{Object, Array}
-use Rattle.jmodel.specs.jmachine.Store.{Store, next_number, paid, with_made}
-use Rattle.jmodel.specs.declared.jstate.shapes.Shapes.{Shapes}
-use Rattle.jmodel.specs.jstate.Celled.{MadeStaysCelled, StayCelled}
-use Rattle.jmodel.specs.jstate.Framed.{Framed}
-use Rattle.jmodel.specs.jstate.Seen.{AreBuilt, Things, array_at, element_type, item_type, object_by, store_by}
-use Rattle.jmodel.specs.jstate.SeenLaws.{MadeStaysBuilt, Makes}
-use Rattle.jrows.specs.jacts.Items.{HasMade, row_of}
-use Rattle.jrows.specs.jacts.Ways.{Acts, int_in, leaves}
+use Rattle.jtypes.specs.DescriptorElements.{in_brackets}
+use Rattle.jresolution.specs.declared.juses.types.ArrayRef.{ArrayRef}
+use Rattle.jresolution.specs.declared.juses.types.ElementRef.{ElementRef}
+use Rattle.jresolution.specs.declared.juses.types.ElementRef.TheVariants as elements
+use Rattle.jresolution.specs.juses.IndexedInstructions as instructions
+use Rattle.jresolution.specs.juses.InternedTypes.{array_named, element_named}
+use Rattle.jsemantics.specs.jmachine.MachineStates.{FrameOf}
+use Rattle.jsemantics.specs.jmachine.ArrayInstructions as rows
+use Rattle.jsemantics.specs.jmachine.InstructionActions.{doing}
+use Rattle.jsemantics.specs.jmachine.FrameOperations.{standing}
+use Rattle.jsemantics.specs.jmachine.Narrowing.{default, place}
+use Rattle.jsemantics.specs.jmachine.HeapObjects.{Object, Array}
+use Rattle.jsemantics.specs.jmachine.Store.{Store, next_number, paid, with_made}
+use Rattle.jruntime.specs.declared.jstate.shapes.Shapes.{Shapes}
+use Rattle.jruntime.specs.jstate.ObjectCells.{MadeStaysCelled, StayCelled}
+use Rattle.jruntime.specs.jstate.FrameLists.{Framed}
+use Rattle.jruntime.specs.jstate.HeapMeanings.{AreBuilt, Things, array_at, element_type, item_type, object_by, store_by}
+use Rattle.jruntime.specs.jstate.HeapMeaningLaws.{MadeStaysBuilt, Makes}
+use Rattle.jrows.specs.jacts.ArrayOperands.{HasMade, row_of}
+use Rattle.jrows.specs.jacts.RowOutcomes.{Acts, int_in, leaves}
 use Rattle.jrows.specs.declared.jacts.way.Way.{Way}
 use Rattle.jrows.specs.declared.jacts.way.Way.TheVariants as ways
-use Rattle.jrows.proofs.JactsProofs.Jumping.{no_int, one_int}
+use Rattle.jrows.proofs.JactsProofs.JumpRows.{no_int, one_int}
 
 pub counts : (n : ℤ) → (k : ℕ) → n ≡ pos k → Some k ≡ place n
 counts n k e = rw e refl

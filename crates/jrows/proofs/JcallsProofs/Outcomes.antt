@@ -1,29 +1,29 @@
 -- What calls come to.
 use Rattle.std.proofs.Common.{◌≡◌, ◌∙◌, ℕ, zero, suc, ◌-◌, ◌≤◌, Bool, true, false, List, [], ◌∷◌, length, take, drop, Some, None, refl, sym, ap, subst, arith}
 use Rattle.std.specs.Prelude.{IfOk, Ok, Err, Result, slice_get}
-use Rattle.jground.specs.declared.jops.value.Value.{Value}
-use Rattle.jheap.specs.declared.cell.Kind.{Kind}
+use Rattle.jvalues.specs.declared.jops.value.Value.{Value}
+use Rattle.jmemory.specs.declared.jheap.cell.Kind.{Kind}
 use Rattle.jlib.specs.declared.classes.LibClass.{LibClass}
-use Rattle.jprogram.specs.declared.member.CallKind.TheVariants as call_kinds
-use Rattle.jprogram.specs.Classes.{Program}
-use Rattle.jmeaning.specs.declared.juses.meaning.How.TheVariants as how
-use Rattle.jmodel.specs.declared.jmachine.plan.Plan.{Plan}
-use Rattle.jmodel.specs.jmachine.Acts.{State}
-use Rattle.jmodel.specs.jmachine.Calls.{Fails, no_access, reached, receiver, wrong_class}
-use Rattle.jmodel.specs.ProofNames.{null_pointer}
-use Rattle.jmodel.specs.jmachine.Security.{Rules}
-use Rattle.jmodel.specs.jmachine.Steps.{site}
-use Rattle.jmodel.specs.jmachine.World.{world}
-use Rattle.jmodel.specs.jstate.Framed.{Framed, holding}
-use Rattle.jmodel.specs.jstate.SeenLaws.{SeesEach}
+use Rattle.jresolution.specs.declared.jprogram.member.CallKind.TheVariants as call_kinds
+use Rattle.jresolution.specs.jprogram.ProgramClasses.{Program}
+use Rattle.jresolution.specs.declared.juses.meaning.InvokeKind.TheVariants as how
+use Rattle.jsemantics.specs.declared.jmachine.plan.Plan.{Plan}
+use Rattle.jsemantics.specs.jmachine.MachineStates.{State}
+use Rattle.jsemantics.specs.jmachine.CallTargets.{Fails, no_access, reached, receiver, wrong_class}
+use Rattle.jsemantics.specs.ProofNames.{null_pointer}
+use Rattle.jsemantics.specs.jmachine.Security.{Rules}
+use Rattle.jsemantics.specs.jmachine.MachineSteps.{site}
+use Rattle.jsemantics.specs.jmachine.World.{world}
+use Rattle.jruntime.specs.jstate.FrameLists.{Framed, holding}
+use Rattle.jruntime.specs.jstate.HeapMeaningLaws.{SeesEach}
 use Rattle.jrows.specs.declared.jcalls.calls.Called.{Called}
 use Rattle.jrows.specs.declared.jcalls.calls.Called.TheVariants as ways
-use Rattle.jrows.specs.declared.jcalls.calls.Found.{Found}
+use Rattle.jrows.specs.declared.jcalls.calls.Selection.{Selection}
 use Rattle.jrows.specs.declared.jcalls.receiver.Receiver.{Receiver}
 use Rattle.jrows.specs.declared.jcalls.receiver.Receiver.TheVariants as receivers
-use Rattle.jrows.specs.jcalls.Calling.{CalledAs, Came, CallsByInterface, CallsOn, CallsStatic, Reaches, calls, comes, id_by, is_full, selected_on}
-use Rattle.jrows.proofs.JcallsProofs.Choosing.{IsThere, class_target, comes_none, comes_so, face_target, interface_null, interface_target, is_there, nothing_called, null_is, null_target, on_target, static_target}
-use Rattle.jrows.proofs.JcallsProofs.Entering.{fails_so}
+use Rattle.jrows.specs.jcalls.MethodCalls.{CalledAs, Came, CallsByInterface, CallsOn, CallsStatic, Reaches, calls, comes, id_by, is_full, selected_on}
+use Rattle.jrows.proofs.JcallsProofs.ReceiverDispatch.{IsThere, class_target, comes_none, comes_so, face_target, interface_null, interface_target, is_there, nothing_called, null_is, null_target, on_target, static_target}
+use Rattle.jrows.proofs.JcallsProofs.MethodEntry.{fails_so}
 
 -- ---- the oldest of some operands
 
@@ -45,7 +45,7 @@ none_oldest operands count is = rw is refl
 
 -- ---- calls
 
-module _ {E : Type 0} (count : ℕ) (what : Found E) (depth : ℕ) (f g : Framed E) where
+module _ {E : Type 0} (count : ℕ) (what : Selection E) (depth : ℕ) (f g : Framed E) where
   static_called : (way : Called) → Reaches count what depth f way g → CallsStatic count what depth f way g
   static_called way l r p plan s c d takes is =
       rw (comes_so r p plan s f count c how.Static (reached (is_full plan f) ((world p).itself c.member)) takes (static_target r p plan s f count c))
@@ -116,7 +116,7 @@ module _ {E : Type 0} (count : ℕ) (what : Found E) (depth : ℕ) (f g : Framed
         let R : Bool → Type 0 = λ b. IfOk way (λ w. CallsByInterface (receivers.Object kind) count what true b depth f w g) in
         subst P (sym e) (subst Q (sym h) (subst R (sym k) (all_faces way kind l)))
 
-module _ {E : Type 0} (count : ℕ) (what : Found E) (depth : ℕ) (f g : Framed E) (way : Called) (dropped : g ≡ holding (drop count f.newest.operands) f) where
+module _ {E : Type 0} (count : ℕ) (what : Selection E) (depth : ℕ) (f g : Framed E) (way : Called) (dropped : g ≡ holding (drop count f.newest.operands) f) where
   raised_as : (class : LibClass) → way ≡ ways.Raises class → (r : Rules ℕ E) (p : Program) (plan : Plan) (s : State ℕ E) (did : Came E)
       → did ≡ comes r p plan s f count (Fails class)
       → CalledAs r p plan s count f way g did

@@ -2,28 +2,28 @@
 use Rattle.std.proofs.Common.{◌≡◌, ◌∙◌, ℕ, ◌+◌, ◌≤◌, Bool, true, false, List, [], ◌∷◌, drop, length, Option, Some, None, refl, sym, ap, ap₂, arith}
 use Rattle.std.specs.Prelude.{is_some, slice_get}
 use Rattle.jparts.specs.declared.jcode.names.RefTest.{RefTest}
-use Rattle.jparts.specs.jcode.Forms as forms
-use Rattle.jground.specs.declared.jnames.kinds.Kind.TheVariants as kinds
-use Rattle.jground.specs.declared.jops.value.Value.{Value}
-use Rattle.jground.specs.declared.jops.value.Value.TheVariants.{Int, Long, Ref, Ctx}
-use Rattle.jprogram.specs.declared.member.Member.{Member}
-use Rattle.jmeaning.specs.jrule.Effects.{Of, Want, of_kinds}
-use Rattle.jmeaning.specs.juses.Instructions.{IfRef, Jump}
-use Rattle.jmodel.specs.jmachine.Acts.{FrameOf}
-use Rattle.jmodel.specs.jmachine.Doing.{doing}
-use Rattle.jmodel.specs.jmachine.Frames.{standing}
-use Rattle.jmodel.specs.jmachine.Operands.{serves, taken}
-use Rattle.jmodel.specs.jmachine.Security.{Rules}
-use Rattle.jmodel.specs.jmachine.Sites.{Site}
-use Rattle.jmodel.specs.jmachine.Store.{Store}
-use Rattle.jmodel.specs.ProofNames
-use Rattle.jmodel.specs.jmachine.Straight.{jump}
-use Rattle.jmodel.specs.jmachine.World.{World}
-use Rattle.jrows.specs.jacts.Ways.{ActsWhere, Comes, GoesFree, branched, leaves}
+use Rattle.jparts.specs.jcode.InstructionForms as forms
+use Rattle.jvalues.specs.declared.jnames.kinds.Kind.TheVariants as kinds
+use Rattle.jvalues.specs.declared.jops.value.Value.{Value}
+use Rattle.jvalues.specs.declared.jops.value.Value.TheVariants.{Int, Long, Ref, Ctx}
+use Rattle.jresolution.specs.declared.jprogram.member.Member.{Member}
+use Rattle.jtyping.specs.jrule.StackEffects.{Of, Want, of_kinds}
+use Rattle.jresolution.specs.juses.IndexedInstructions.{IfRef, Jump}
+use Rattle.jsemantics.specs.jmachine.MachineStates.{FrameOf}
+use Rattle.jsemantics.specs.jmachine.InstructionActions.{doing}
+use Rattle.jsemantics.specs.jmachine.FrameOperations.{standing}
+use Rattle.jsemantics.specs.jmachine.TakenOperands.{serves, taken}
+use Rattle.jsemantics.specs.jmachine.Security.{Rules}
+use Rattle.jsemantics.specs.jmachine.InstructionSites.{Site}
+use Rattle.jsemantics.specs.jmachine.Store.{Store}
+use Rattle.jsemantics.specs.ProofNames
+use Rattle.jsemantics.specs.jmachine.BasicInstructions.{jump}
+use Rattle.jsemantics.specs.jmachine.World.{World}
+use Rattle.jrows.specs.jacts.RowOutcomes.{ActsWhere, Comes, GoesFree, branched, leaves}
 use Rattle.jrows.specs.declared.jacts.way.Way.TheVariants as ways
-use Rattle.jrows.specs.jobjs.Branching.{ServeTest, null_test, ref_in, same_test}
-use Rattle.jrows.proofs.JobjsProofs.Putting.{are_served, next}
-use Rattle.jrows.proofs.JobjsProofs.Served.{front_one, has_front, not_served, serves_one, taken_front}
+use Rattle.jrows.specs.jobjs.ReferenceBranches.{ServeTest, null_test, ref_in, same_test}
+use Rattle.jrows.proofs.JobjsProofs.FieldWrites.{are_served, next}
+use Rattle.jrows.proofs.JobjsProofs.ServedOperands.{front_one, has_front, not_served, serves_one, taken_front}
 
 -- ---- references that are there
 

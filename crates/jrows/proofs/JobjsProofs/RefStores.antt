@@ -3,58 +3,58 @@ use Rattle.std.proofs.Common.{◌≡◌, ◌∙◌, ℕ, zero, suc, ℤ, ◌+◌
 use Rattle.std.specs.Prelude.{is_some, nat_lt, option_map, slice_get, slice_set, if◌then◌else◌}
 use Rattle.std.proofs.lemmas.List.{length-map}
 use Rattle.jparts.specs.declared.jcode.names.Element.TheVariants as items
-use Rattle.jparts.specs.declared.jcode.form.ArrayForm.TheVariants as forms
-use Rattle.jground.specs.declared.jnames.kinds.Kind.TheVariants as wanted
-use Rattle.jheap.specs.declared.cell.CellType.TheVariants as cells
-use Rattle.jheap.specs.declared.cell.Kind.{Kind}
-use Rattle.jheap.specs.declared.cell.Kind.TheVariants as kinds
-use Rattle.jheap.specs.Heaps as heaps
-use Rattle.jheap.specs.Heaps.{Heaped, cells_at, kind_at, with_cell}
-use Rattle.jheap.specs.Raw.{of_raw, raw}
-use Rattle.jheap.specs.Raw as numbers
+use Rattle.jparts.specs.declared.jcode.op_form.ArrayForm.TheVariants as forms
+use Rattle.jvalues.specs.declared.jnames.kinds.Kind.TheVariants as wanted
+use Rattle.jmemory.specs.declared.jheap.cell.CellType.TheVariants as cells
+use Rattle.jmemory.specs.declared.jheap.cell.Kind.{Kind}
+use Rattle.jmemory.specs.declared.jheap.cell.Kind.TheVariants as kinds
+use Rattle.jmemory.specs.jheap.Heaps as heaps
+use Rattle.jmemory.specs.jheap.Heaps.{Heaped, cells_at, kind_at, with_cell}
+use Rattle.jmemory.specs.jheap.RawValues.{of_raw, raw}
+use Rattle.jmemory.specs.jheap.RawValues as numbers
 use Rattle.jlib.specs.declared.classes.LibClass.TheVariants as lib
 use Rattle.jlib.specs.declared.classes.Thrown.TheVariants as thrown
-use Rattle.jground.specs.declared.jops.value.Value.{Value}
-use Rattle.jground.specs.declared.jops.value.Value.TheVariants.{Int, Long, Ref, Ctx}
-use Rattle.jprogram.specs.Classes.{Program}
-use Rattle.jprogram.specs.declared.member.Member.{Member}
-use Rattle.jprogram.specs.declared.part.ClassRef.{ClassRef}
-use Rattle.jprogram.specs.declared.part.ClassRef.TheVariants as classes
-use Rattle.jmeaning.specs.jrule.Effects.{Of, Holds, Want, same_items}
+use Rattle.jvalues.specs.declared.jops.value.Value.{Value}
+use Rattle.jvalues.specs.declared.jops.value.Value.TheVariants.{Int, Long, Ref, Ctx}
+use Rattle.jresolution.specs.jprogram.ProgramClasses.{Program}
+use Rattle.jresolution.specs.declared.jprogram.member.Member.{Member}
+use Rattle.jresolution.specs.declared.jprogram.part.ClassRef.{ClassRef}
+use Rattle.jresolution.specs.declared.jprogram.part.ClassRef.TheVariants as classes
+use Rattle.jtyping.specs.jrule.StackEffects.{Of, Holds, Want, same_items}
 use Rattle.jtypes.specs.declared.vtype.Element.{Element}
-use Rattle.jmeaning.specs.declared.juses.types.ArrayRef.{ArrayRef}
-use Rattle.jmeaning.specs.declared.juses.types.ElementRef.{ElementRef}
-use Rattle.jmeaning.specs.declared.juses.types.ElementRef.TheVariants as refs
-use Rattle.jmeaning.specs.juses.Instructions as instructions
-use Rattle.jmeaning.specs.juses.Types.{array_named}
-use Rattle.jmodel.specs.jmachine.Acts.{FrameOf}
-use Rattle.jmodel.specs.jmachine.Arrays as rows
-use Rattle.jmodel.specs.jmachine.Arrays.{Items}
-use Rattle.jmodel.specs.jmachine.Doing.{doing}
-use Rattle.jmodel.specs.jmachine.Frames.{standing}
-use Rattle.jmodel.specs.jmachine.Narrowing.{held_by, narrowed, place}
-use Rattle.jmodel.specs.jmachine.Objects.{Array}
-use Rattle.jmodel.specs.jmachine.Operands.{Taken, serves, taken, type_of, with_value}
-use Rattle.jmodel.specs.jmachine.Sites.{Site}
-use Rattle.jmodel.specs.jmachine.Store.{Store, object_at, with_object}
-use Rattle.jmodel.specs.jmachine.World.{World}
-use Rattle.jmodel.specs.declared.jstate.shapes.Shape.{Shape}
-use Rattle.jmodel.specs.declared.jstate.shapes.Shapes.{Shapes}
-use Rattle.jmodel.specs.jstate.Celled.{StayCelled, WrittenStaysCelled}
-use Rattle.jmodel.specs.jstate.Framed.{Framed}
-use Rattle.jmodel.specs.jstate.Numbers.{class_numbered}
-use Rattle.jmodel.specs.jstate.Seen.{AreBuilt, Things, array_at, class_by, element_type, item_type, kind_by, object_by, store_by, user_by}
-use Rattle.jmodel.specs.jstate.SeenLaws.{IsNoPiece, NamesNone, SeesEach, Writes, WritesItem, WrittenStaysBuilt}
-use Rattle.jrows.specs.jacts.Accesses.{held_as, items_by}
-use Rattle.jrows.specs.jacts.Ways.{ActsWhere, GoesFree, int_in, leaves}
+use Rattle.jresolution.specs.declared.juses.types.ArrayRef.{ArrayRef}
+use Rattle.jresolution.specs.declared.juses.types.ElementRef.{ElementRef}
+use Rattle.jresolution.specs.declared.juses.types.ElementRef.TheVariants as refs
+use Rattle.jresolution.specs.juses.IndexedInstructions as instructions
+use Rattle.jresolution.specs.juses.InternedTypes.{array_named}
+use Rattle.jsemantics.specs.jmachine.MachineStates.{FrameOf}
+use Rattle.jsemantics.specs.jmachine.ArrayInstructions as rows
+use Rattle.jsemantics.specs.jmachine.ArrayInstructions.{Items}
+use Rattle.jsemantics.specs.jmachine.InstructionActions.{doing}
+use Rattle.jsemantics.specs.jmachine.FrameOperations.{standing}
+use Rattle.jsemantics.specs.jmachine.Narrowing.{held_by, narrowed, place}
+use Rattle.jsemantics.specs.jmachine.HeapObjects.{Array}
+use Rattle.jsemantics.specs.jmachine.TakenOperands.{Taken, serves, taken, type_of, with_value}
+use Rattle.jsemantics.specs.jmachine.InstructionSites.{Site}
+use Rattle.jsemantics.specs.jmachine.Store.{Store, object_at, with_object}
+use Rattle.jsemantics.specs.jmachine.World.{World}
+use Rattle.jruntime.specs.declared.jstate.shapes.Shape.{Shape}
+use Rattle.jruntime.specs.declared.jstate.shapes.Shapes.{Shapes}
+use Rattle.jruntime.specs.jstate.ObjectCells.{StayCelled, WrittenStaysCelled}
+use Rattle.jruntime.specs.jstate.FrameLists.{Framed}
+use Rattle.jruntime.specs.jstate.ClassNumbers.{class_numbered}
+use Rattle.jruntime.specs.jstate.HeapMeanings.{AreBuilt, Things, array_at, class_by, element_type, item_type, kind_by, object_by, store_by, user_by}
+use Rattle.jruntime.specs.jstate.HeapMeaningLaws.{IsNoPiece, NamesNone, SeesEach, Writes, WritesItem, WrittenStaysBuilt}
+use Rattle.jrows.specs.jacts.ArrayAccesses.{held_as, items_by}
+use Rattle.jrows.specs.jacts.RowOutcomes.{ActsWhere, GoesFree, int_in, leaves}
 use Rattle.jrows.specs.declared.jacts.way.Way.{Way}
 use Rattle.jrows.specs.declared.jacts.way.Way.TheVariants as ways
-use Rattle.jrows.proofs.JactsProofs.Accessing.{array_items}
+use Rattle.jrows.proofs.JactsProofs.ArrayLoads.{array_items}
 use Rattle.jrows.specs.declared.jobjs.storing.Held.TheVariants as helds
-use Rattle.jrows.specs.jobjs.Stored.{HasStored, MayStore, ServeStore, held_found, held_seen}
-use Rattle.jrows.proofs.JobjsProofs.Served.{not_served}
-use Rattle.jmodel.specs.jmachine.Making.{is_one}
-use Rattle.jmeaning.specs.jrule.Arrays.{component}
+use Rattle.jrows.specs.jobjs.StoredReferences.{HasStored, MayStore, ServeStore, held_found, held_seen}
+use Rattle.jrows.proofs.JobjsProofs.ServedOperands.{not_served}
+use Rattle.jsemantics.specs.jmachine.ObjectInstructions.{is_one}
+use Rattle.jtyping.specs.jrule.ArrayRule.{component}
 
 -- ---- three operands that serve
 

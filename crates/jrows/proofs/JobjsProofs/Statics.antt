@@ -4,43 +4,43 @@ use Rattle.std.specs.Prelude.{Result, Ok, Err, IfOk, OnOk, get_or, is_some, opti
 use Rattle.std.proofs.lemmas.Bool.{lt-ltb}
 use Rattle.std.proofs.lemmas.Option.{slice_get-get_or, slice_get_within}
 use Rattle.jparts.specs.declared.jcode.names.FieldOp.TheVariants as ops
-use Rattle.jheap.specs.declared.cell.CellType.{CellType}
-use Rattle.jheap.specs.Heaps as heaps
-use Rattle.jheap.specs.Heaps.{Heaped}
-use Rattle.jheap.specs.Raw.{of_raw, raw}
-use Rattle.jheap.specs.Raw as numbers
-use Rattle.jground.specs.declared.jops.value.Value.{Value}
-use Rattle.jground.specs.declared.jops.value.Value.TheVariants.{Int, Long, Ref, Ctx}
-use Rattle.jprogram.specs.Classes.{Program}
-use Rattle.jprogram.specs.declared.member.Member.{Member}
-use Rattle.jprogram.specs.declared.member.Member.TheVariants as members
-use Rattle.jmeaning.specs.jrule.Effects.{Fits}
-use Rattle.jmeaning.specs.jrule.Uses.{exchange}
+use Rattle.jmemory.specs.declared.jheap.cell.CellType.{CellType}
+use Rattle.jmemory.specs.jheap.Heaps as heaps
+use Rattle.jmemory.specs.jheap.Heaps.{Heaped}
+use Rattle.jmemory.specs.jheap.RawValues.{of_raw, raw}
+use Rattle.jmemory.specs.jheap.RawValues as numbers
+use Rattle.jvalues.specs.declared.jops.value.Value.{Value}
+use Rattle.jvalues.specs.declared.jops.value.Value.TheVariants.{Int, Long, Ref, Ctx}
+use Rattle.jresolution.specs.jprogram.ProgramClasses.{Program}
+use Rattle.jresolution.specs.declared.jprogram.member.Member.{Member}
+use Rattle.jresolution.specs.declared.jprogram.member.Member.TheVariants as members
+use Rattle.jtyping.specs.jrule.StackEffects.{Fits}
+use Rattle.jtyping.specs.jrule.PoolEffects.{exchange}
 use Rattle.jtypes.specs.declared.vtype.Element.{Element}
-use Rattle.jmeaning.specs.declared.juses.types.ElementRef.{ElementRef}
-use Rattle.jmeaning.specs.juses.Types.{element_named}
-use Rattle.jmeaning.specs.juses.Instructions as instructions
-use Rattle.jmeaning.specs.juses.Meanings as meanings
-use Rattle.jmeaning.specs.juses.Meanings.{FieldMeaning}
-use Rattle.jmodel.specs.jmachine.Acts.{FrameOf}
-use Rattle.jmodel.specs.jmachine.Doing.{doing, used}
-use Rattle.jmodel.specs.jmachine.Fields.{field, get_static}
-use Rattle.jmodel.specs.jmachine.Frames.{onward, standing, with_operands}
-use Rattle.jmodel.specs.jmachine.Narrowing.{narrowed}
-use Rattle.jmodel.specs.jmachine.Operands.{taken}
-use Rattle.jmodel.specs.jmachine.Sites.{Site}
-use Rattle.jmodel.specs.jmachine.Store.{Store, with_statics}
-use Rattle.jmodel.specs.jmachine.World.{World}
-use Rattle.jmodel.specs.declared.jstate.shapes.Shapes.{Shapes}
-use Rattle.jmodel.specs.jstate.Framed.{Framed, with_newest}
-use Rattle.jmodel.specs.jstate.Seen.{Things, store_by, values_of}
-use Rattle.jmodel.specs.jstate.SeenLaws.{Reads, WritesStatic}
-use Rattle.jrows.specs.jacts.Ways.{Acts, ActsWhere, Comes, GoesFree, leaves}
+use Rattle.jresolution.specs.declared.juses.types.ElementRef.{ElementRef}
+use Rattle.jresolution.specs.juses.InternedTypes.{element_named}
+use Rattle.jresolution.specs.juses.IndexedInstructions as instructions
+use Rattle.jresolution.specs.juses.InstructionMeanings as meanings
+use Rattle.jresolution.specs.juses.InstructionMeanings.{FieldMeaning}
+use Rattle.jsemantics.specs.jmachine.MachineStates.{FrameOf}
+use Rattle.jsemantics.specs.jmachine.InstructionActions.{doing, used}
+use Rattle.jsemantics.specs.jmachine.FieldInstructions.{field, get_static}
+use Rattle.jsemantics.specs.jmachine.FrameOperations.{onward, standing, with_operands}
+use Rattle.jsemantics.specs.jmachine.Narrowing.{narrowed}
+use Rattle.jsemantics.specs.jmachine.TakenOperands.{taken}
+use Rattle.jsemantics.specs.jmachine.InstructionSites.{Site}
+use Rattle.jsemantics.specs.jmachine.Store.{Store, with_statics}
+use Rattle.jsemantics.specs.jmachine.World.{World}
+use Rattle.jruntime.specs.declared.jstate.shapes.Shapes.{Shapes}
+use Rattle.jruntime.specs.jstate.FrameLists.{Framed, with_newest}
+use Rattle.jruntime.specs.jstate.HeapMeanings.{Things, store_by, values_of}
+use Rattle.jruntime.specs.jstate.HeapMeaningLaws.{Reads, WritesStatic}
+use Rattle.jrows.specs.jacts.RowOutcomes.{Acts, ActsWhere, Comes, GoesFree, leaves}
 use Rattle.jrows.specs.declared.jacts.way.Way.{Way}
 use Rattle.jrows.specs.declared.jacts.way.Way.TheVariants as ways
-use Rattle.jrows.specs.jobjs.Fielded.{HoldsOnly, KeepsAs, StandsStatic, is_users}
-use Rattle.jrows.specs.jobjs.Serving.{Serve}
-use Rattle.jrows.proofs.JobjsProofs.Served.{front_one, not_served, one_served, serves_one}
+use Rattle.jrows.specs.jobjs.FieldCells.{HoldsOnly, KeepsAs, StandsStatic, is_users}
+use Rattle.jrows.specs.jobjs.EntryOperands.{Serve}
+use Rattle.jrows.proofs.JobjsProofs.ServedOperands.{front_one, not_served, one_served, serves_one}
 
 users_static : (w : World) (s : Store ℕ) (m : Member) → is_users m ≡ true → get_static w s m ≡ option_and_then (slice_get s.statics) (w.slot m)
 users_static w s (members.Field class field) h = refl

@@ -1,38 +1,38 @@
 -- Builders, and what the machine's definition sees of them.
 use Rattle.std.proofs.Common.{◌≡◌, ◌∙◌, ℕ, zero, suc, ◌-◌, ◌<◌, ◌≤◌, ℤ, Bool, true, false, List, [], ◌∷◌, Option, Some, None, refl, sym, ap, rules}
 use Rattle.std.specs.Prelude.{option_and_then, option_map, slice_get, nat_eq, nat_lt, if◌then◌else◌, is_some, IfOk, Result, Ok, Err}
-use Rattle.jground.specs.declared.jops.value.Value.{Value}
-use Rattle.jground.specs.declared.jops.value.Value.TheVariants.{Int, Long, Ref, Ctx}
-use Rattle.jheap.specs.declared.cell.Kind.{Kind}
-use Rattle.jheap.specs.declared.cell.Kind.TheVariants as kinds
-use Rattle.jheap.specs.Heaps as heaps
-use Rattle.jheap.specs.Heaps.{Heaped, cells_at}
+use Rattle.jvalues.specs.declared.jops.value.Value.{Value}
+use Rattle.jvalues.specs.declared.jops.value.Value.TheVariants.{Int, Long, Ref, Ctx}
+use Rattle.jmemory.specs.declared.jheap.cell.Kind.{Kind}
+use Rattle.jmemory.specs.declared.jheap.cell.Kind.TheVariants as kinds
+use Rattle.jmemory.specs.jheap.Heaps as heaps
+use Rattle.jmemory.specs.jheap.Heaps.{Heaped, cells_at}
 use Rattle.jlib.specs.declared.classes.LibClass.TheVariants as lib
 use Rattle.jlib.specs.declared.calls.BuilderCall.TheVariants as calls
-use Rattle.jlib.specs.declared.calls.Piece.{Piece}
-use Rattle.jprogram.specs.declared.part.ClassRef.{ClassRef}
-use Rattle.jprogram.specs.declared.part.ClassRef.TheVariants as refs
-use Rattle.jprogram.specs.Classes.{Program}
-use Rattle.jmodel.specs.jmachine.Acts.{Row}
-use Rattle.jmodel.specs.jmachine.Making as making
-use Rattle.jmodel.specs.jmachine.Objects.{Builder}
-use Rattle.jmodel.specs.jmachine.Store.{Store, with_object}
-use Rattle.jmodel.specs.jmachine.Texts as definition
-use Rattle.jmodel.specs.ProofNames
-use Rattle.jmodel.specs.jmachine.Texts.{appended, builder, printed, units}
-use Rattle.jmodel.specs.declared.jstate.shapes.Shape.{Shape}
-use Rattle.jmodel.specs.declared.jstate.shapes.Shapes.{Shapes}
-use Rattle.jmodel.specs.jstate.Numbers.{class_numbered, library_at, library_count}
-use Rattle.jmodel.specs.jstate.Seen.{Things, built, built_by, class_by, first, is_builder, kind_by, named_by, object_by, store_by, units_of, user_by}
-use Rattle.jmodel.specs.jstate.SeenLaws.{SeesEach}
+use Rattle.jlib.specs.declared.calls.PrintedType.{PrintedType}
+use Rattle.jresolution.specs.declared.jprogram.part.ClassRef.{ClassRef}
+use Rattle.jresolution.specs.declared.jprogram.part.ClassRef.TheVariants as refs
+use Rattle.jresolution.specs.jprogram.ProgramClasses.{Program}
+use Rattle.jsemantics.specs.jmachine.MachineStates.{Row}
+use Rattle.jsemantics.specs.jmachine.ObjectInstructions as making
+use Rattle.jsemantics.specs.jmachine.HeapObjects.{Builder}
+use Rattle.jsemantics.specs.jmachine.Store.{Store, with_object}
+use Rattle.jsemantics.specs.jmachine.TextCalls as definition
+use Rattle.jsemantics.specs.ProofNames
+use Rattle.jsemantics.specs.jmachine.TextCalls.{appended, builder, printed, units}
+use Rattle.jruntime.specs.declared.jstate.shapes.Shape.{Shape}
+use Rattle.jruntime.specs.declared.jstate.shapes.Shapes.{Shapes}
+use Rattle.jruntime.specs.jstate.ClassNumbers.{class_numbered, library_at, library_count}
+use Rattle.jruntime.specs.jstate.HeapMeanings.{Things, built, built_by, class_by, first, is_builder, kind_by, named_by, object_by, store_by, units_of, user_by}
+use Rattle.jruntime.specs.jstate.HeapMeaningLaws.{SeesEach}
 use Rattle.jrows.specs.jtexts.HeapBuilders.{builder_found, builder_number, last_piece, without_text}
 use Rattle.jrows.specs.jtexts.HeapTexts.{names_nothing, text_number}
-use Rattle.jrows.specs.jtexts.Rans.{Comes, Left, gave, leaves}
-use Rattle.jrows.specs.jtexts.Shown.{shown}
+use Rattle.jrows.specs.jtexts.TextCallOutcomes.{Comes, Left, gave, leaves}
+use Rattle.jrows.specs.jtexts.PrintedValues.{shown}
 use Rattle.jrows.specs.declared.jtexts.ran.Ran.{Ran}
 use Rattle.jrows.specs.declared.jtexts.ran.Ran.TheVariants as rans
 use Rattle.jrows.proofs.JtextsProofs.Costs.{at_no_cost}
-use Rattle.jrows.proofs.JtextsProofs.Numbered.{at_number}
+use Rattle.jrows.proofs.JtextsProofs.ClassNumbers.{at_number}
 use Rattle.jrows.proofs.JtextsProofs.PrintRows.{printed_seen}
 use Rattle.jrows.proofs.JtextsProofs.StringRows.{none_known, some_known}
 
@@ -162,7 +162,7 @@ module _ (each : SeesEach) (h : Heaped) (p : Program) (shapes : Shapes) (things 
 
 -- ---- append
 
-module _ (E : Type 0) (s : Store ℕ) (piece : Piece) (v : Value ℕ) (b : ℕ) where
+module _ (E : Type 0) (s : Store ℕ) (piece : PrintedType) (v : Value ℕ) (b : ℕ) where
   append_row : (us more : List ℕ) (l : Left) → definition.built s b ≡ Some us → printed s piece v ≡ Some more
       → Comes {E = E} s (Some (appended s b (Ref b ∷ []) us more)) l
       → Comes {E = E} s (builder s (calls.Append piece) (v ∷ Ref b ∷ [])) l
@@ -182,7 +182,7 @@ module _ (E : Type 0) (each : SeesEach) (h : Heaped) (p : Program) (shapes : Sha
   abbrev before : Store ℕ
   before = store_by p shapes things constants h
 
-  pub append_stuck : (piece : Piece) (v object : Value ℕ) → None ≡ builder_number h object
+  pub append_stuck : (piece : PrintedType) (v object : Value ℕ) → None ≡ builder_number h object
       → Comes {E = E} before (builder before (calls.Append piece) (v ∷ object ∷ [])) (leaves rans.Stuck [] before)
   unfolding builder
   append_stuck piece v (Int x) e = refl
@@ -190,7 +190,7 @@ module _ (E : Type 0) (each : SeesEach) (h : Heaped) (p : Program) (shapes : Sha
   append_stuck piece v (Ctx k) e = refl
   append_stuck piece v (Ref n) e = append_nowhere E before piece v n (none_built each h p shapes things constants n e)
 
-  pub append_none : (piece : Piece) (v object : Value ℕ) (b : ℕ) → Some b ≡ builder_number h object → None ≡ shown h piece v
+  pub append_none : (piece : PrintedType) (v object : Value ℕ) (b : ℕ) → Some b ≡ builder_number h object → None ≡ shown h piece v
       → Comes {E = E} before (builder before (calls.Append piece) (v ∷ object ∷ [])) (leaves rans.Stuck [] before)
   append_none piece v object b e none =
       let it = is_builder_at h object b e in
@@ -199,7 +199,7 @@ module _ (E : Type 0) (each : SeesEach) (h : Heaped) (p : Program) (shapes : Sha
       (append_nothing E before piece v b (built h.objects (last_piece h b)) (some_built each h p shapes things constants b here)
       (printed_seen each p shapes things constants h piece v ∙ sym none))
 
-  append_some : (piece : Piece) (v object : Value ℕ) (b : ℕ) (us : List ℕ) (l : Left) → Some b ≡ builder_number h object → Some us ≡ shown h piece v
+  append_some : (piece : PrintedType) (v object : Value ℕ) (b : ℕ) (us : List ℕ) (l : Left) → Some b ≡ builder_number h object → Some us ≡ shown h piece v
       → Comes {E = E} before (Some (appended before b (Ref b ∷ []) (built h.objects (last_piece h b)) us)) l
       → Comes {E = E} before (builder before (calls.Append piece) (v ∷ object ∷ [])) l
   append_some piece v object b us l e some comes =
@@ -210,7 +210,7 @@ module _ (E : Type 0) (each : SeesEach) (h : Heaped) (p : Program) (shapes : Sha
       (printed_seen each p shapes things constants h piece v ∙ sym some) comes)
 
 -- where memory was there, what was appended is what the row says
-pub append_all : (E F : Type 0) (each : SeesEach) (h t : Heaped) (piece : Piece) (v object : Value ℕ) (r : Result Ran F) (b : ℕ) (us : List ℕ)
+pub append_all : (E F : Type 0) (each : SeesEach) (h t : Heaped) (piece : PrintedType) (v object : Value ℕ) (r : Result Ran F) (b : ℕ) (us : List ℕ)
     → Some b ≡ builder_number h object
     → Some us ≡ shown h piece v
     → IfOk r (λ ran. (p : Program) (shapes : Shapes) (things : Things) (constants : List (List ℕ × ℕ)) →

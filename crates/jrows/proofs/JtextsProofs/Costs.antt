@@ -2,9 +2,9 @@
 use Rattle.std.proofs.Common.{◌≡◌, ℕ, ◌-◌, List, ap, arith}
 use Rattle.std.specs.Prelude.{nat_le, if◌then◌else◌}
 use Rattle.std.proofs.Math.Dec.{leb-zero}
-use Rattle.jrights.specs.declared.jtrace.event.Event.{Event}
-use Rattle.jmodel.specs.jmachine.Store.{Store, paid}
-use Rattle.jrows.specs.jtexts.Rans.{Left, leaves}
+use Rattle.joutput.specs.declared.jtrace.event.Event.{Event}
+use Rattle.jsemantics.specs.jmachine.Store.{Store, paid}
+use Rattle.jrows.specs.jtexts.TextCallOutcomes.{Left, leaves}
 use Rattle.jrows.specs.declared.jtexts.ran.Ran.{Ran}
 
 unpaid : {K : Type 0} (s : Store K) → s ≡ paid 0 s

@@ -3,19 +3,19 @@ use Rattle.std.proofs.Common.{◌≡◌, ◌∙◌, ℕ, ◌+◌, ◌<◌, ◌^�
 use Rattle.std.specs.Prelude.{nat_le}
 use Rattle.std.proofs.lemmas.Bool.{le-leb}
 use Rattle.std.proofs.lemmas.List.{length-map}
-use Rattle.jground.specs.declared.jops.value.Value.TheVariants.{Ref}
-use Rattle.jheap.specs.declared.cell.Kind.TheVariants as kinds
-use Rattle.jheap.specs.Heaps.{Heaped}
-use Rattle.jprogram.specs.Classes.{Program}
-use Rattle.jmeaning.specs.juses.Meanings as meanings
-use Rattle.jmodel.specs.jmachine.Making.{push, units_of as units_held}
-use Rattle.jmodel.specs.jmachine.Objects.{Text}
-use Rattle.jmodel.specs.jmachine.Store.{Store, constant_at, next_number, paid, with_made}
-use Rattle.jmodel.specs.declared.jstate.shapes.Shapes.{Shapes}
-use Rattle.jmodel.specs.jstate.Seen.{AreBuilt, Things, object_by, store_by}
-use Rattle.jmodel.specs.jstate.SeenLaws.{AddsOne}
+use Rattle.jvalues.specs.declared.jops.value.Value.TheVariants.{Ref}
+use Rattle.jmemory.specs.declared.jheap.cell.Kind.TheVariants as kinds
+use Rattle.jmemory.specs.jheap.Heaps.{Heaped}
+use Rattle.jresolution.specs.jprogram.ProgramClasses.{Program}
+use Rattle.jresolution.specs.juses.InstructionMeanings as meanings
+use Rattle.jsemantics.specs.jmachine.ObjectInstructions.{push, units_of as units_held}
+use Rattle.jsemantics.specs.jmachine.HeapObjects.{Text}
+use Rattle.jsemantics.specs.jmachine.Store.{Store, constant_at, next_number, paid, with_made}
+use Rattle.jruntime.specs.declared.jstate.shapes.Shapes.{Shapes}
+use Rattle.jruntime.specs.jstate.HeapMeanings.{AreBuilt, Things, object_by, store_by}
+use Rattle.jruntime.specs.jstate.HeapMeaningLaws.{AddsOne}
 use Rattle.jrows.specs.jtexts.HeapTexts.{Puts}
-use Rattle.jrows.specs.jtexts.Rans.{Comes, leaves}
+use Rattle.jrows.specs.jtexts.TextCallOutcomes.{Comes, leaves}
 use Rattle.jrows.specs.declared.jtexts.ran.Ran.TheVariants as rans
 use Rattle.jrows.proofs.JtextsProofs.TextRows.{text_view}
 

@@ -1,23 +1,23 @@
 -- What is printed.
 use Rattle.std.proofs.Common.{◌≡◌, ◌∙◌, ℕ, zero, suc, List, [], ◌∷◌, Option, Some, None, refl, sym}
-use Rattle.jground.specs.declared.jops.value.Value.{Value}
-use Rattle.jground.specs.declared.jops.value.Value.TheVariants.{Int, Long, Ref, Ctx}
-use Rattle.jheap.specs.Heaps.{Heaped}
-use Rattle.jlib.specs.declared.calls.Piece.{Piece}
-use Rattle.jlib.specs.declared.calls.Piece.TheVariants as pieces
-use Rattle.jrights.specs.declared.jtrace.event.Event.TheVariants.{Out}
-use Rattle.jprogram.specs.Classes.{Program}
-use Rattle.jmodel.specs.jmachine.Store.{Store}
-use Rattle.jmodel.specs.jmachine.Texts.{print, print_end, printed, units_or_null}
-use Rattle.jmodel.specs.declared.jstate.shapes.Shapes.{Shapes}
-use Rattle.jmodel.specs.jstate.Seen.{Things, store_by}
-use Rattle.jmodel.specs.jstate.SeenLaws.{SeesEach}
-use Rattle.jrows.specs.jtexts.Printed.{Prints}
-use Rattle.jrows.specs.jtexts.Rans.{leaves}
-use Rattle.jrows.specs.jtexts.Shown.{shown, text_or_null}
+use Rattle.jvalues.specs.declared.jops.value.Value.{Value}
+use Rattle.jvalues.specs.declared.jops.value.Value.TheVariants.{Int, Long, Ref, Ctx}
+use Rattle.jmemory.specs.jheap.Heaps.{Heaped}
+use Rattle.jlib.specs.declared.calls.PrintedType.{PrintedType}
+use Rattle.jlib.specs.declared.calls.PrintedType.TheVariants as pieces
+use Rattle.joutput.specs.declared.jtrace.event.Event.TheVariants.{Out}
+use Rattle.jresolution.specs.jprogram.ProgramClasses.{Program}
+use Rattle.jsemantics.specs.jmachine.Store.{Store}
+use Rattle.jsemantics.specs.jmachine.TextCalls.{print, print_end, printed, units_or_null}
+use Rattle.jruntime.specs.declared.jstate.shapes.Shapes.{Shapes}
+use Rattle.jruntime.specs.jstate.HeapMeanings.{Things, store_by}
+use Rattle.jruntime.specs.jstate.HeapMeaningLaws.{SeesEach}
+use Rattle.jrows.specs.jtexts.PrintEvents.{Prints}
+use Rattle.jrows.specs.jtexts.TextCallOutcomes.{leaves}
+use Rattle.jrows.specs.jtexts.PrintedValues.{shown, text_or_null}
 use Rattle.jrows.specs.declared.jtexts.ran.Ran.TheVariants as rans
 use Rattle.jrows.proofs.JtextsProofs.Costs.{at_no_cost}
-use Rattle.jrows.proofs.JtextsProofs.Reading.{sees_units}
+use Rattle.jrows.proofs.JtextsProofs.TextReads.{sees_units}
 
 module _ (each : SeesEach) (p : Program) (shapes : Shapes) (things : Things) (constants : List (List ℕ × ℕ)) (h : Heaped) where
   text_seen : (v : Value ℕ) → units_or_null (store_by p shapes things constants h) v ≡ text_or_null h v
@@ -28,7 +28,7 @@ module _ (each : SeesEach) (p : Program) (shapes : Shapes) (things : Things) (co
   text_seen (Ctx k) = refl
 
   -- what is printed is seen by the heap alone
-  pub printed_seen : (piece : Piece) (v : Value ℕ) → printed (store_by p shapes things constants h) piece v ≡ shown h piece v
+  pub printed_seen : (piece : PrintedType) (v : Value ℕ) → printed (store_by p shapes things constants h) piece v ≡ shown h piece v
   unfolding printed
   printed_seen pieces.Text v = text_seen v
   printed_seen pieces.Long (Long x) = refl
@@ -48,7 +48,7 @@ module _ (each : SeesEach) (p : Program) (shapes : Shapes) (things : Things) (co
   printed_seen pieces.Bool (Ref o) = refl
   printed_seen pieces.Bool (Ctx k) = refl
 
-print_row : (E : Type 0) (s : Store ℕ) (thread : ℕ) (piece : Piece) (v stream : Value ℕ) (text : Option (List ℕ)) → printed s piece v ≡ text
+print_row : (E : Type 0) (s : Store ℕ) (thread : ℕ) (piece : PrintedType) (v stream : Value ℕ) (text : Option (List ℕ)) → printed s piece v ≡ text
     → Prints {E = E} s (print s thread piece (v ∷ stream ∷ [])) thread text
 unfolding print
 print_row E s thread piece v stream None e = rw e refl
@@ -58,7 +58,7 @@ pub end_row : (E : Type 0) (s : Store ℕ) (thread : ℕ) (stream : Value ℕ) �
 unfolding print_end
 end_row E s thread stream = at_no_cost s s rans.Went (Out thread [] ∷ []) (leaves rans.Full [] s)
 
-pub print_shown : (E : Type 0) (each : SeesEach) (h : Heaped) (piece : Piece) (v : Value ℕ) (text : Option (List ℕ)) → text ≡ shown h piece v
+pub print_shown : (E : Type 0) (each : SeesEach) (h : Heaped) (piece : PrintedType) (v : Value ℕ) (text : Option (List ℕ)) → text ≡ shown h piece v
     → (p : Program) (shapes : Shapes) (things : Things) (constants : List (List ℕ × ℕ)) (thread : ℕ) (stream : Value ℕ)
     → Prints {E = E} (store_by p shapes things constants h) (print (store_by p shapes things constants h) thread piece (v ∷ stream ∷ [])) thread text
 print_shown E each h piece v text is p shapes things constants thread stream =

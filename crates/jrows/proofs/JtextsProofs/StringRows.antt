@@ -3,28 +3,28 @@ use Rattle.std.proofs.Common.{◌≡◌, ◌∙◌, ℕ, zero, suc, ℤ, pos, �
 use Rattle.std.specs.Prelude.{slice_get, option_and_then, option_map, IfOk, Result, Ok, Err}
 use Rattle.std.specs.Str.{bytes_eq}
 use Rattle.std.proofs.lemmas.List.{length-map}
-use Rattle.jground.specs.declared.jops.value.Value.{Value}
-use Rattle.jground.specs.declared.jops.value.Value.TheVariants.{Int, Long, Ref, Ctx}
-use Rattle.jheap.specs.Heaps.{Heaped, cells_at}
+use Rattle.jvalues.specs.declared.jops.value.Value.{Value}
+use Rattle.jvalues.specs.declared.jops.value.Value.TheVariants.{Int, Long, Ref, Ctx}
+use Rattle.jmemory.specs.jheap.Heaps.{Heaped, cells_at}
 use Rattle.jlib.specs.declared.classes.LibClass.TheVariants as lib
 use Rattle.jlib.specs.declared.classes.Thrown.TheVariants as thrown
 use Rattle.jlib.specs.declared.calls.StringCall.TheVariants as calls
-use Rattle.jprogram.specs.Classes.{Program}
-use Rattle.jmodel.specs.jmachine.Acts.{Row}
-use Rattle.jmodel.specs.jmachine.Making as making
-use Rattle.jmodel.specs.jmachine.Narrowing.{place}
-use Rattle.jmodel.specs.jmachine.Store.{Store}
-use Rattle.jmodel.specs.jmachine.Texts as definition
-use Rattle.jmodel.specs.jmachine.Texts.{string, units}
-use Rattle.jmodel.specs.declared.jstate.shapes.Shapes.{Shapes}
-use Rattle.jmodel.specs.jstate.Seen.{Things, store_by, units_of}
-use Rattle.jmodel.specs.jstate.SeenLaws.{SeesEach}
+use Rattle.jresolution.specs.jprogram.ProgramClasses.{Program}
+use Rattle.jsemantics.specs.jmachine.MachineStates.{Row}
+use Rattle.jsemantics.specs.jmachine.ObjectInstructions as making
+use Rattle.jsemantics.specs.jmachine.Narrowing.{place}
+use Rattle.jsemantics.specs.jmachine.Store.{Store}
+use Rattle.jsemantics.specs.jmachine.TextCalls as definition
+use Rattle.jsemantics.specs.jmachine.TextCalls.{string, units}
+use Rattle.jruntime.specs.declared.jstate.shapes.Shapes.{Shapes}
+use Rattle.jruntime.specs.jstate.HeapMeanings.{Things, store_by, units_of}
+use Rattle.jruntime.specs.jstate.HeapMeaningLaws.{SeesEach}
 use Rattle.jrows.specs.jtexts.HeapTexts.{names_nothing, text_number}
-use Rattle.jrows.specs.jtexts.Rans.{Comes, Left, flag, leaves}
+use Rattle.jrows.specs.jtexts.TextCallOutcomes.{Comes, Left, flag, leaves}
 use Rattle.jrows.specs.declared.jtexts.ran.Ran.{Ran}
 use Rattle.jrows.specs.declared.jtexts.ran.Ran.TheVariants as rans
 use Rattle.jrows.proofs.JtextsProofs.Costs.{at_no_cost}
-use Rattle.jrows.proofs.JtextsProofs.Reading.{is_no_text, is_text, sees_units}
+use Rattle.jrows.proofs.JtextsProofs.TextReads.{is_no_text, is_text, sees_units}
 
 module _ (E : Type 0) (s : Store ℕ) (v : Value ℕ) where
   length_row : (us : List ℕ) → units s v ≡ Some us → Comes {E = E} s (string s calls.Length (v ∷ [])) (leaves (rans.Gave (Int (pos (length us)))) [] s)

@@ -3,17 +3,17 @@ use Rattle.std.proofs.Common.{◌≡◌, ◌∙◌, ℕ, ◌+◌, List, [], leng
 use Rattle.std.specs.Prelude.{nat_le, if◌then◌else◌}
 use Rattle.std.proofs.lemmas.Bool.{le-leb}
 use Rattle.std.proofs.lemmas.List.{length-map}
-use Rattle.jheap.specs.declared.cell.Kind.TheVariants as kinds
-use Rattle.jheap.specs.Heaps.{Heaped}
-use Rattle.jground.specs.declared.jops.value.Value.TheVariants.{Ref}
-use Rattle.jprogram.specs.Classes.{Program}
-use Rattle.jmodel.specs.jmachine.Objects.{Text}
-use Rattle.jmodel.specs.jmachine.Store.{Store, next_number, paid, with_made}
-use Rattle.jmodel.specs.declared.jstate.shapes.Shapes.{Shapes}
-use Rattle.jmodel.specs.jstate.Seen.{AreBuilt, Things, object_by, store_by}
-use Rattle.jmodel.specs.jstate.SeenLaws.{AddsOne}
+use Rattle.jmemory.specs.declared.jheap.cell.Kind.TheVariants as kinds
+use Rattle.jmemory.specs.jheap.Heaps.{Heaped}
+use Rattle.jvalues.specs.declared.jops.value.Value.TheVariants.{Ref}
+use Rattle.jresolution.specs.jprogram.ProgramClasses.{Program}
+use Rattle.jsemantics.specs.jmachine.HeapObjects.{Text}
+use Rattle.jsemantics.specs.jmachine.Store.{Store, next_number, paid, with_made}
+use Rattle.jruntime.specs.declared.jstate.shapes.Shapes.{Shapes}
+use Rattle.jruntime.specs.jstate.HeapMeanings.{AreBuilt, Things, object_by, store_by}
+use Rattle.jruntime.specs.jstate.HeapMeaningLaws.{AddsOne}
 use Rattle.jrows.specs.jtexts.HeapTexts.{Puts, with_units}
-use Rattle.jrows.specs.jtexts.Rans.{leaves}
+use Rattle.jrows.specs.jtexts.TextCallOutcomes.{leaves}
 use Rattle.jrows.specs.declared.jtexts.ran.Ran.TheVariants as rans
 use Rattle.jrows.proofs.JtextsProofs.Units.{units_same}
 

@@ -1,26 +1,26 @@
 -- Messages.
 use Rattle.std.proofs.Common.{◌≡◌, ◌∙◌, ℕ, zero, suc, List, [], ◌∷◌, drop, Option, Some, None, refl, sym, ap}
 use Rattle.std.specs.Prelude.{option_map, slice_get, unwrap_or}
-use Rattle.jground.specs.declared.jops.value.Value.{Value}
-use Rattle.jground.specs.declared.jops.value.Value.TheVariants.{Int, Long, Ref, Ctx}
-use Rattle.jheap.specs.declared.cell.Kind.{Kind}
-use Rattle.jheap.specs.declared.cell.Kind.TheVariants as kinds
-use Rattle.jheap.specs.Heaps as heaps
-use Rattle.jheap.specs.Heaps.{Heaped}
+use Rattle.jvalues.specs.declared.jops.value.Value.{Value}
+use Rattle.jvalues.specs.declared.jops.value.Value.TheVariants.{Int, Long, Ref, Ctx}
+use Rattle.jmemory.specs.declared.jheap.cell.Kind.{Kind}
+use Rattle.jmemory.specs.declared.jheap.cell.Kind.TheVariants as kinds
+use Rattle.jmemory.specs.jheap.Heaps as heaps
+use Rattle.jmemory.specs.jheap.Heaps.{Heaped}
 use Rattle.jlib.specs.declared.classes.LibClass.TheVariants as lib
-use Rattle.jprogram.specs.declared.part.ClassRef.{ClassRef}
-use Rattle.jprogram.specs.declared.part.ClassRef.TheVariants as refs
-use Rattle.jprogram.specs.Classes.{Program}
-use Rattle.jmodel.specs.ProofNames.{object_init}
-use Rattle.jmodel.specs.jmachine.Store.{Store, object_at}
-use Rattle.jmodel.specs.jmachine.Throwables.{message, message_of}
-use Rattle.jmodel.specs.declared.jstate.shapes.Shape.{Shape}
-use Rattle.jmodel.specs.declared.jstate.shapes.Shapes.{Shapes}
-use Rattle.jmodel.specs.jstate.Numbers.{class_numbered}
-use Rattle.jmodel.specs.jstate.Seen.{Things, class_by, first, kind_by, object_by, store_by, user_by}
-use Rattle.jmodel.specs.jstate.SeenLaws.{SeesEach}
+use Rattle.jresolution.specs.declared.jprogram.part.ClassRef.{ClassRef}
+use Rattle.jresolution.specs.declared.jprogram.part.ClassRef.TheVariants as refs
+use Rattle.jresolution.specs.jprogram.ProgramClasses.{Program}
+use Rattle.jsemantics.specs.ProofNames.{object_init}
+use Rattle.jsemantics.specs.jmachine.Store.{Store, object_at}
+use Rattle.jsemantics.specs.jmachine.Throwables.{message, message_of}
+use Rattle.jruntime.specs.declared.jstate.shapes.Shape.{Shape}
+use Rattle.jruntime.specs.declared.jstate.shapes.Shapes.{Shapes}
+use Rattle.jruntime.specs.jstate.ClassNumbers.{class_numbered}
+use Rattle.jruntime.specs.jstate.HeapMeanings.{Things, class_by, first, kind_by, object_by, store_by, user_by}
+use Rattle.jruntime.specs.jstate.HeapMeaningLaws.{SeesEach}
 use Rattle.jrows.specs.jtexts.Messages.{kind_told, message_by_shape, message_named, object_told, told_by}
-use Rattle.jrows.specs.jtexts.Rans.{Comes, leaves}
+use Rattle.jrows.specs.jtexts.TextCallOutcomes.{Comes, leaves}
 use Rattle.jrows.specs.declared.jtexts.ran.Ran.TheVariants as rans
 use Rattle.jrows.proofs.JtextsProofs.Costs.{at_no_cost}
 

@@ -4,7 +4,7 @@ use Rattle.std.specs.Prelude.{nat_eq, slice_get, unwrap_or, ◌&&◌}
 use Rattle.std.proofs.Common.{◌≢◌}
 use Rattle.std.specs.Str.{bytes_eq}
 use Rattle.std.proofs.Math.Nat.{mod-eq_of_lt}
-use Rattle.jmodel.specs.jstate.Seen.{units_of}
+use Rattle.jruntime.specs.jstate.HeapMeanings.{units_of}
 
 -- the unit of a cell
 abbrev pub unit : List ℕ → ℕ → ℕ

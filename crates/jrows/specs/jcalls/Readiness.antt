@@ -1,16 +1,16 @@
 -- When an object of the heap may be used: some hold nothing yet, as the machine's definition has it, and are of no type.
 use Rattle.std.specs.Prelude.{◌≡◌, ℕ, zero, suc, Bool, true, false, List, length, nat_lt, Option, Some, None, is_some}
-use Rattle.jground.specs.declared.jops.value.Value.{Value}
-use Rattle.jground.specs.declared.jops.value.Value.TheVariants.{Ref}
-use Rattle.jheap.specs.declared.cell.Kind.{Kind}
-use Rattle.jheap.specs.declared.cell.Kind.TheVariants as kinds
-use Rattle.jheap.specs.Heaps as heaps
-use Rattle.jheap.specs.Heaps.{Heaped}
+use Rattle.jvalues.specs.declared.jops.value.Value.{Value}
+use Rattle.jvalues.specs.declared.jops.value.Value.TheVariants.{Ref}
+use Rattle.jmemory.specs.declared.jheap.cell.Kind.{Kind}
+use Rattle.jmemory.specs.declared.jheap.cell.Kind.TheVariants as kinds
+use Rattle.jmemory.specs.jheap.Heaps as heaps
+use Rattle.jmemory.specs.jheap.Heaps.{Heaped}
 use Rattle.jlib.specs.declared.classes.LibClass.TheVariants as lib
-use Rattle.jprogram.specs.declared.part.ClassRef.{ClassRef}
-use Rattle.jprogram.specs.declared.part.ClassRef.TheVariants as refs
-use Rattle.jmodel.specs.jstate.Numbers.{class_numbered}
-use Rattle.jmodel.specs.jstate.Seen.{Things, first, number_in, place_in}
+use Rattle.jresolution.specs.declared.jprogram.part.ClassRef.{ClassRef}
+use Rattle.jresolution.specs.declared.jprogram.part.ClassRef.TheVariants as refs
+use Rattle.jruntime.specs.jstate.ClassNumbers.{class_numbered}
+use Rattle.jruntime.specs.jstate.HeapMeanings.{Things, first, number_in, place_in}
 use Rattle.jrows.specs.declared.jcalls.ready.Needs.{Needs}
 use Rattle.jrows.specs.declared.jcalls.ready.Needs.TheVariants as needs
 use Rattle.jrows.specs.declared.jcalls.ready.Counts.{Counts}

@@ -1,25 +1,25 @@
 -- What a step comes to that returns from a method (JVMS 6.5: ireturn, lreturn, areturn, return).
 use Rattle.std.specs.Prelude.{◌≡◌, ⊤, ℕ, List, [], Some, false}
-use Rattle.jground.specs.declared.jnames.kinds.Kind.{Kind}
-use Rattle.jground.specs.declared.jnames.kinds.Kind.TheVariants as kinds
-use Rattle.jheap.specs.Heaps.{Heaped}
+use Rattle.jvalues.specs.declared.jnames.kinds.Kind.{Kind}
+use Rattle.jvalues.specs.declared.jnames.kinds.Kind.TheVariants as kinds
+use Rattle.jmemory.specs.jheap.Heaps.{Heaped}
 use Rattle.jparts.specs.declared.jcode.names.Returned.{Returned}
 use Rattle.jparts.specs.declared.jcode.names.Returned.TheVariants as results
-use Rattle.jground.specs.declared.jops.value.Value.{Value}
-use Rattle.jprogram.specs.Classes.{Program}
-use Rattle.jmeaning.specs.juses.Instructions.{Return}
-use Rattle.jmodel.specs.declared.jmachine.plan.Plan.{Plan}
-use Rattle.jmodel.specs.jmachine.Acts.{Outcome, NoStep, State}
-use Rattle.jmodel.specs.jmachine.Security.{Rules}
-use Rattle.jmodel.specs.jmachine.Steps.{executed, left, went}
-use Rattle.jmodel.specs.jmachine.Turns.{ended}
-use Rattle.jmodel.specs.jstate.Framed.{Framed, all}
-use Rattle.jmodel.specs.declared.jstate.shapes.Shapes.{Shapes}
-use Rattle.jmodel.specs.jstate.Seen.{Things, store_by}
+use Rattle.jvalues.specs.declared.jops.value.Value.{Value}
+use Rattle.jresolution.specs.jprogram.ProgramClasses.{Program}
+use Rattle.jresolution.specs.juses.IndexedInstructions.{Return}
+use Rattle.jsemantics.specs.declared.jmachine.plan.Plan.{Plan}
+use Rattle.jsemantics.specs.jmachine.MachineStates.{Outcome, NoStep, State}
+use Rattle.jsemantics.specs.jmachine.Security.{Rules}
+use Rattle.jsemantics.specs.jmachine.MachineSteps.{executed, left, went}
+use Rattle.jsemantics.specs.jmachine.ThreadTurns.{ended}
+use Rattle.jruntime.specs.jstate.FrameLists.{Framed, all}
+use Rattle.jruntime.specs.declared.jstate.shapes.Shapes.{Shapes}
+use Rattle.jruntime.specs.jstate.HeapMeanings.{Things, store_by}
 use Rattle.jrows.specs.declared.jcalls.ready.Counts.{Counts}
 use Rattle.jrows.specs.declared.jcalls.returns.Leaving.{Leaving}
 use Rattle.jrows.specs.declared.jcalls.returns.Leaving.TheVariants as ways
-use Rattle.jrows.specs.jcalls.Marks.{AreStanding, marks_of}
+use Rattle.jrows.specs.jcalls.FrameMarks.{AreStanding, marks_of}
 use Rattle.jrows.specs.jcalls.Readiness.{AreCounted}
 
 -- the kinds of numbers

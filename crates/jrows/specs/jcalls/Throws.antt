@@ -1,33 +1,33 @@
 -- What a step comes to in which something is raised or thrown (JVMS 2.10).
 use Rattle.std.specs.Prelude.{◌≡◌, ◌⊎◌, ℕ, true, List, [], ◌∷◌, ◌++◌, nat_le, Option, Some, None, if◌then◌else◌}
 use Rattle.std.specs.List.{AllByRecursion}
-use Rattle.jheap.specs.declared.cell.Kind.TheVariants as kinds
-use Rattle.jheap.specs.Heaps.{Heaped, made}
+use Rattle.jmemory.specs.declared.jheap.cell.Kind.TheVariants as kinds
+use Rattle.jmemory.specs.jheap.Heaps.{Heaped, made}
 use Rattle.jlib.specs.declared.classes.LibClass.{LibClass}
 use Rattle.jlib.specs.declared.classes.Thrown.{Thrown as ThrownClass}
 use Rattle.jtypes.specs.declared.vtype.VType.{VType}
 use Rattle.jtypes.specs.declared.vtype.VType.TheVariants as types
-use Rattle.jrights.specs.declared.jtrace.event.Event.{Event}
-use Rattle.jrights.specs.declared.jtrace.event.Event.TheVariants.{Throw, Uncaught}
-use Rattle.jrights.specs.declared.jtrace.event.End.TheVariants.{HeapFull}
-use Rattle.jprogram.specs.declared.member.MethodId.{MethodId}
-use Rattle.jprogram.specs.Classes.{Program}
-use Rattle.jmodel.specs.declared.jmachine.plan.Plan.{Plan}
-use Rattle.jmodel.specs.jmachine.Acts.{FrameOf, Outcome, Over, State, two}
-use Rattle.jmodel.specs.jmachine.Objects.{Object, class_of, library_name}
-use Rattle.jmodel.specs.jmachine.Security.{Rules}
-use Rattle.jmodel.specs.jmachine.Steps.{raised, thrown_at, went}
-use Rattle.jmodel.specs.jmachine.Store.{Store, object_at, paid}
-use Rattle.jmodel.specs.jmachine.Turns.{ended, thread_of}
-use Rattle.jmodel.specs.jmachine.Unwinding.{told_name, with_raised}
-use Rattle.jmodel.specs.jmachine.World.{world}
-use Rattle.jmodel.specs.jstate.Framed.{Framed, all}
-use Rattle.jmodel.specs.declared.jstate.shapes.Shapes.{Shapes}
-use Rattle.jmodel.specs.jstate.Numbers.{thrown_number}
-use Rattle.jmodel.specs.jstate.Seen.{Things, store_by}
+use Rattle.joutput.specs.declared.jtrace.event.Event.{Event}
+use Rattle.joutput.specs.declared.jtrace.event.Event.TheVariants.{Throw, Uncaught}
+use Rattle.joutput.specs.declared.jtrace.event.End.TheVariants.{HeapFull}
+use Rattle.jresolution.specs.declared.jprogram.member.MethodId.{MethodId}
+use Rattle.jresolution.specs.jprogram.ProgramClasses.{Program}
+use Rattle.jsemantics.specs.declared.jmachine.plan.Plan.{Plan}
+use Rattle.jsemantics.specs.jmachine.MachineStates.{FrameOf, Outcome, Over, State, two}
+use Rattle.jsemantics.specs.jmachine.HeapObjects.{Object, class_of, library_name}
+use Rattle.jsemantics.specs.jmachine.Security.{Rules}
+use Rattle.jsemantics.specs.jmachine.MachineSteps.{raised, thrown_at, went}
+use Rattle.jsemantics.specs.jmachine.Store.{Store, object_at, paid}
+use Rattle.jsemantics.specs.jmachine.ThreadTurns.{ended, thread_of}
+use Rattle.jsemantics.specs.jmachine.Unwinding.{told_name, with_raised}
+use Rattle.jsemantics.specs.jmachine.World.{world}
+use Rattle.jruntime.specs.jstate.FrameLists.{Framed, all}
+use Rattle.jruntime.specs.declared.jstate.shapes.Shapes.{Shapes}
+use Rattle.jruntime.specs.jstate.ClassNumbers.{thrown_number}
+use Rattle.jruntime.specs.jstate.HeapMeanings.{Things, store_by}
 use Rattle.jrows.specs.declared.jcalls.raising.Raised.{Raised}
 use Rattle.jrows.specs.declared.jcalls.raising.Raised.TheVariants as ways
-use Rattle.jrows.specs.jcalls.Marks.{AreStanding, Stand, marks_of}
+use Rattle.jrows.specs.jcalls.FrameMarks.{AreStanding, Stand, marks_of}
 use Rattle.jrows.specs.jcalls.Unwinds.{IsTold}
 
 -- What raising an exception of a class of the library comes to behind these events, without a message: it costs its cells, and where they

@@ -1,14 +1,14 @@
 -- What unwinding comes to (JVMS 2.10).
 use Rattle.std.specs.Prelude.{◌≡◌, ℕ, Bool, true, false, List, [], ◌∷◌, Option, Some, None}
 use Rattle.std.specs.List.{AllByRecursion}
-use Rattle.jprogram.specs.declared.member.MethodId.{MethodId}
-use Rattle.jprogram.specs.Classes.{Program}
+use Rattle.jresolution.specs.declared.jprogram.member.MethodId.{MethodId}
+use Rattle.jresolution.specs.jprogram.ProgramClasses.{Program}
 use Rattle.jtypes.specs.declared.vtype.VType.{VType}
-use Rattle.jground.specs.declared.jops.value.Value.TheVariants.{Ref}
-use Rattle.jmodel.specs.jmachine.Acts.{FrameOf}
-use Rattle.jmodel.specs.jmachine.Unwinding.{handler_at, resumed, unwound}
-use Rattle.jmodel.specs.jstate.Framed.{Framed, all}
-use Rattle.jrows.specs.jcalls.Marks.{marks_of}
+use Rattle.jvalues.specs.declared.jops.value.Value.TheVariants.{Ref}
+use Rattle.jsemantics.specs.jmachine.MachineStates.{FrameOf}
+use Rattle.jsemantics.specs.jmachine.Unwinding.{handler_at, resumed, unwound}
+use Rattle.jruntime.specs.jstate.FrameLists.{Framed, all}
+use Rattle.jrows.specs.jcalls.FrameMarks.{marks_of}
 
 -- What is asked about a frame's method and place is where it goes on if something of this type is thrown.
 abbrev pub IsTold : {E : Type 0} → Program → VType → (MethodId → ℕ → Option ℕ) → FrameOf ℕ E → Type 0

@@ -1,17 +1,17 @@
 -- Builders of the heap, and their pieces.
 use Rattle.std.specs.Prelude.{◌≡◌, ◌+◌, ◌-◌, ◌++◌, ℕ, List, [], ◌∷◌, length, Option, Some, None, is_some, true, nat_eq, if◌then◌else◌}
 use Rattle.std.specs.List.{AllByRecursion}
-use Rattle.jground.specs.declared.jops.value.Value.{Value}
-use Rattle.jground.specs.declared.jops.value.Value.TheVariants.{Ref}
-use Rattle.jheap.specs.declared.cell.Kind.{Kind}
-use Rattle.jheap.specs.declared.cell.Kind.TheVariants as kinds
-use Rattle.jheap.specs.Heaps.{Heaped, HasCell, cells_at, kind_at, object_at}
+use Rattle.jvalues.specs.declared.jops.value.Value.{Value}
+use Rattle.jvalues.specs.declared.jops.value.Value.TheVariants.{Ref}
+use Rattle.jmemory.specs.declared.jheap.cell.Kind.{Kind}
+use Rattle.jmemory.specs.declared.jheap.cell.Kind.TheVariants as kinds
+use Rattle.jmemory.specs.jheap.Heaps.{Heaped, HasCell, cells_at, kind_at, object_at}
 use Rattle.jlib.specs.declared.classes.LibClass.TheVariants as lib
 use Rattle.jlib.specs.declared.classes.Thrown.TheVariants as thrown
-use Rattle.jmodel.specs.declared.jstate.shapes.Shapes.{Shapes}
-use Rattle.jmodel.specs.jstate.Celled.{AreCelled}
-use Rattle.jmodel.specs.jstate.Numbers.{library_number}
-use Rattle.jmodel.specs.jstate.Seen.{first, named_by, units_of}
+use Rattle.jruntime.specs.declared.jstate.shapes.Shapes.{Shapes}
+use Rattle.jruntime.specs.jstate.ObjectCells.{AreCelled}
+use Rattle.jruntime.specs.jstate.ClassNumbers.{library_number}
+use Rattle.jruntime.specs.jstate.HeapMeanings.{first, named_by, units_of}
 use Rattle.jrows.specs.declared.jtexts.ran.Ran.{Ran}
 use Rattle.jrows.specs.declared.jtexts.ran.Ran.TheVariants as rans
 

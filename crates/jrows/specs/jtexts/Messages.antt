@@ -1,20 +1,20 @@
 -- The messages of objects of the heap that can be thrown.
 use Rattle.std.specs.Prelude.{◌≡◌, ⊤, ℕ, Bool, true, false, List, drop, length, Option, Some, None, slice_get, if◌then◌else◌}
-use Rattle.jground.specs.declared.jops.value.Value.{Value}
-use Rattle.jground.specs.declared.jops.value.Value.TheVariants.{Ref}
-use Rattle.jheap.specs.declared.cell.Kind.{Kind}
-use Rattle.jheap.specs.declared.cell.Kind.TheVariants as kinds
-use Rattle.jheap.specs.Heaps as heaps
-use Rattle.jheap.specs.Heaps.{HasCell, Heaped, kind_at, object_at}
+use Rattle.jvalues.specs.declared.jops.value.Value.{Value}
+use Rattle.jvalues.specs.declared.jops.value.Value.TheVariants.{Ref}
+use Rattle.jmemory.specs.declared.jheap.cell.Kind.{Kind}
+use Rattle.jmemory.specs.declared.jheap.cell.Kind.TheVariants as kinds
+use Rattle.jmemory.specs.jheap.Heaps as heaps
+use Rattle.jmemory.specs.jheap.Heaps.{HasCell, Heaped, kind_at, object_at}
 use Rattle.jlib.specs.declared.classes.LibClass.{LibClass}
 use Rattle.jlib.specs.declared.classes.LibClass.TheVariants as lib
-use Rattle.jprogram.specs.declared.part.ClassRef.{ClassRef}
-use Rattle.jprogram.specs.declared.part.ClassRef.TheVariants as refs
-use Rattle.jmodel.specs.declared.jstate.shapes.Shape.{Shape}
-use Rattle.jmodel.specs.declared.jstate.shapes.Shapes.{Shapes}
-use Rattle.jmodel.specs.jstate.Celled.{AreCelled}
-use Rattle.jmodel.specs.jstate.Numbers.{class_numbered}
-use Rattle.jmodel.specs.jstate.Seen.{first, message_by, named_by}
+use Rattle.jresolution.specs.declared.jprogram.part.ClassRef.{ClassRef}
+use Rattle.jresolution.specs.declared.jprogram.part.ClassRef.TheVariants as refs
+use Rattle.jruntime.specs.declared.jstate.shapes.Shape.{Shape}
+use Rattle.jruntime.specs.declared.jstate.shapes.Shapes.{Shapes}
+use Rattle.jruntime.specs.jstate.ObjectCells.{AreCelled}
+use Rattle.jruntime.specs.jstate.ClassNumbers.{class_numbered}
+use Rattle.jruntime.specs.jstate.HeapMeanings.{first, message_by, named_by}
 
 -- objects of a class of the library that can be thrown have one
 abbrev pub has_message : LibClass → Bool

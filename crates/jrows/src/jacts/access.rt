@@ -1,34 +1,34 @@
 ghost use Rattle.std.specs.Prelude.{◌≡◌, ◌<◌, ◌≤◌, ◌+◌, ◌^◌, [], ℕ, List, IfSome, is_some, length, slice_get, true};
-ghost use Rattle.jparts.specs.declared.jcode.form.ArrayForm.TheVariants as forms;
-ghost use Rattle.jheap.specs.Heaps.{cells_at, object_at};
-ghost use Rattle.jmodel.specs.jmachine.Arrays as rows;
-ghost use Rattle.jmodel.specs.jmachine.Narrowing.{place as place_of};
-ghost use Rattle.jprogram.specs.Classes.{Program};
-ghost use Rattle.jmeaning.specs.jrule.Effects.{same_items};
-ghost use Rattle.jmeaning.specs.juses.Instructions as instructions;
-ghost use Rattle.jmodel.specs.jstate.Seen.{Things, array_at as shape_at, store_by};
-ghost use Rattle.jrows.specs.jacts.Accesses;
-ghost use Rattle.jrows.specs.jacts.Accesses.{with_items};
-ghost use Rattle.jrows.specs.jacts.Items.{array_seen};
-ghost use Rattle.jrows.specs.jacts.Ways.{Acts, Rests, leaves};
+ghost use Rattle.jparts.specs.declared.jcode.op_form.ArrayForm.TheVariants as forms;
+ghost use Rattle.jmemory.specs.jheap.Heaps.{cells_at, object_at};
+ghost use Rattle.jsemantics.specs.jmachine.ArrayInstructions as rows;
+ghost use Rattle.jsemantics.specs.jmachine.Narrowing.{place as place_of};
+ghost use Rattle.jresolution.specs.jprogram.ProgramClasses.{Program};
+ghost use Rattle.jtyping.specs.jrule.StackEffects.{same_items};
+ghost use Rattle.jresolution.specs.juses.IndexedInstructions as instructions;
+ghost use Rattle.jruntime.specs.jstate.HeapMeanings.{Things, array_at as shape_at, store_by};
+ghost use Rattle.jrows.specs.jacts.ArrayAccesses;
+ghost use Rattle.jrows.specs.jacts.ArrayAccesses.{with_items};
+ghost use Rattle.jrows.specs.jacts.ArrayOperands.{array_seen};
+ghost use Rattle.jrows.specs.jacts.RowOutcomes.{Acts, Rests, leaves};
 
-use crate::jacts::arrays::{Found, array_at};
+use crate::jacts::arrays::{ArrayOperand, array_at};
 use crate::jacts::jumps::int_at;
 use crate::jacts::straight::give_for;
 use crate::jacts::way::Way;
-use jground::jops::Value;
-use jheap::{CellType, Heap};
 use jlib::{LibClass, Thrown};
-use jmeaning::juses::{ArrayRef, ElementRef};
-use jmodel::jstate::{Frames, Shapes, element_of, numbers_at, row_type};
+use jmemory::jheap::{CellType, Heap};
 use jparts::jcode::Element;
+use jresolution::juses::{ArrayRef, ElementRef};
+use jruntime::jstate::{Frames, Shapes, element_of, numbers_at, row_type};
+use jvalues::jops::Value;
 
 // ---- what arrays hold
 
 /// The type of the cells of arrays with such items.
 #[inline]
 fn cell_for(e: Element) -> CellType
-    ensures { result ≡ Accesses.cell_for e }
+    ensures { result ≡ ArrayAccesses.cell_for e }
 {
     match e {
         Element::Int => CellType::Int,
@@ -42,7 +42,7 @@ fn cell_for(e: Element) -> CellType
 
 #[inline]
 fn held_as(element: ElementRef) -> Element
-    ensures { result ≡ Accesses.held_as element }
+    ensures { result ≡ ArrayAccesses.held_as element }
 {
     match element {
         ElementRef::Boolean => Element::Byte,
@@ -58,7 +58,7 @@ fn held_as(element: ElementRef) -> Element
 /// What an array of a type holds, as loads and stores tell it apart.
 #[inline]
 fn items_by(a: ArrayRef) -> Element
-    ensures { result ≡ Accesses.items_by a }
+    ensures { result ≡ ArrayAccesses.items_by a }
 {
     if 1 < a.depth {
         return Element::Ref;
@@ -68,9 +68,9 @@ fn items_by(a: ArrayRef) -> Element
 
 /// What the arrays of a number of the heap hold. Where the number says it, no type is looked up.
 #[inline]
-#[tactic(auto, using(crate::proofs::JactsProofs::Accessing::items_said, crate::proofs::JactsProofs::Accessing::items_row))]
+#[tactic(auto, using(crate::proofs::JactsProofs::ArrayLoads::items_said, crate::proofs::JactsProofs::ArrayLoads::items_row))]
 fn items_of(shapes: &Shapes, number: u32) -> Element
-    ensures { result ≡ Accesses.items_by (shape_at shapes.now number) }
+    ensures { result ≡ ArrayAccesses.items_by (shape_at shapes.now number) }
 {
     match numbers_at(number) {
         None => items_by(row_type(shapes, number)),
@@ -100,17 +100,17 @@ pub(crate) fn items_at<M: Copy>(
     shapes: &Shapes,
     i: usize,
     e: Element,
-) -> Found
+) -> ArrayOperand
     ensures { result ≡ with_items shapes.now e (array_seen heap.now (slice_get frames.now.newest.operands i)) }
 {
     match array_at(frames, heap, i) {
-        Found::Other => Found::Other,
-        Found::Null => Found::Null,
-        Found::Array(o, a) => {
+        ArrayOperand::Other => ArrayOperand::Other,
+        ArrayOperand::Null => ArrayOperand::Null,
+        ArrayOperand::Array(o, a) => {
             if is_same(e, items_of(shapes, a)) {
-                return Found::Array(o, a);
+                return ArrayOperand::Array(o, a);
             }
-            Found::Other
+            ArrayOperand::Other
         }
     }
 }
@@ -136,10 +136,10 @@ pub fn within(count: u32, i: i32) -> Option<u32>
 
 /// The item of an index, where it is there.
 #[inline]
-#[tactic(auto, using(crate::proofs::JactsProofs::Accessing::item_found))]
+#[tactic(auto, using(crate::proofs::JactsProofs::ArrayLoads::item_found))]
 fn item_at(heap: &Heap, of: CellType, o: u32, i: i32) -> Option<Value>
     requires { is_some (object_at heap.now o) ≡ true }
-    ensures item { result ≡ Accesses.item_in heap.now of o i }
+    ensures item { result ≡ ArrayAccesses.item_in heap.now of o i }
     ensures there { is_some result ≡ is_some (rows.within (length (cells_at heap.now o)) (place_of i)) }
 {
     let look = heap.looked(o);
@@ -152,7 +152,7 @@ fn item_at(heap: &Heap, of: CellType, o: u32, i: i32) -> Option<Value>
 /// A load of an item from an array (JVMS 6.5: iaload, laload, aaload, baload, caload, saload). A null array comes before an index that
 /// isn't there.
 #[inline]
-#[tactic(auto, using(crate::proofs::JactsProofs::Accessing::has_second))]
+#[tactic(auto, using(crate::proofs::JactsProofs::ArrayLoads::has_second))]
 pub fn array_load<M: Copy>(frames: &mut Frames<M>, heap: &Heap, shapes: &Shapes, e: Element) -> Way
     requires place { frames.old.newest.place + 1 < 2 ^ 32 }
     ensures row { (p : Program) (things : Things) (constants : List (List ℕ × ℕ)) →
@@ -164,9 +164,9 @@ pub fn array_load<M: Copy>(frames: &mut Frames<M>, heap: &Heap, shapes: &Shapes,
         return Way::Stuck;
     };
     match items_at(frames, heap, shapes, 1, e) {
-        Found::Other => Way::Stuck,
-        Found::Null => Way::Raises(LibClass::Thrown(Thrown::NullPointerException)),
-        Found::Array(o, _) => match item_at(heap, cell_for(e), o, i) {
+        ArrayOperand::Other => Way::Stuck,
+        ArrayOperand::Null => Way::Raises(LibClass::Thrown(Thrown::NullPointerException)),
+        ArrayOperand::Array(o, _) => match item_at(heap, cell_for(e), o, i) {
             None => Way::Raises(LibClass::Thrown(Thrown::ArrayIndexOutOfBoundsException)),
             Some(value) => {
                 give_for(frames, 2, value);

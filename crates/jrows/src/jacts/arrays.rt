@@ -1,34 +1,34 @@
 ghost use Rattle.std.specs.Prelude.{◌≡◌, ◌<◌, ◌≤◌, ◌+◌, ◌^◌, ◌∷◌, [], ℕ, List, IfOk, MatchOption, OnOk, drop, is_some, length, pos, slice_get, true};
 ghost use Rattle.jparts.specs.declared.jcode.names.ArrayType.{ArrayType as ArrayKind};
-ghost use Rattle.jheap.specs.declared.cell.Kind.TheVariants as kinds;
-ghost use Rattle.jmeaning.specs.juses.Types.{array_named};
-ghost use Rattle.jmodel.specs.jmachine.Frames.{standing};
-ghost use Rattle.jmodel.specs.jmachine.Narrowing.{place as place_of};
-ghost use Rattle.jmodel.specs.jstate.Framed.{with_newest};
+ghost use Rattle.jmemory.specs.declared.jheap.cell.Kind.TheVariants as kinds;
+ghost use Rattle.jresolution.specs.juses.InternedTypes.{array_named};
+ghost use Rattle.jsemantics.specs.jmachine.FrameOperations.{standing};
+ghost use Rattle.jsemantics.specs.jmachine.Narrowing.{place as place_of};
+ghost use Rattle.jruntime.specs.jstate.FrameLists.{with_newest};
 ghost use Rattle.jrows.specs.declared.jacts.way.Way.TheVariants as ways;
-ghost use Rattle.jparts.specs.declared.jcode.form.ArrayForm.TheVariants as forms;
-ghost use Rattle.jheap.specs.Heaps.{cells_at, object_at};
-ghost use Rattle.jground.specs.declared.jops.value.Value.TheVariants as values;
-ghost use Rattle.jprogram.specs.Classes.{Program};
-ghost use Rattle.jmeaning.specs.juses.Instructions as instructions;
-ghost use Rattle.jmodel.specs.declared.jstate.shapes.Shapes.{Shapes};
-ghost use Rattle.jmodel.specs.jstate.Celled.{StayCelled};
-ghost use Rattle.jmodel.specs.jstate.Seen.{AreBuilt, Things, array_at as shape_at, store_by};
-ghost use Rattle.jrows.specs.jacts.Items.{HasMade, array_seen, row_of};
-ghost use Rattle.jrows.specs.jacts.Ways.{Acts, Rests, leaves};
+ghost use Rattle.jparts.specs.declared.jcode.op_form.ArrayForm.TheVariants as forms;
+ghost use Rattle.jmemory.specs.jheap.Heaps.{cells_at, object_at};
+ghost use Rattle.jvalues.specs.declared.jops.value.Value.TheVariants as values;
+ghost use Rattle.jresolution.specs.jprogram.ProgramClasses.{Program};
+ghost use Rattle.jresolution.specs.juses.IndexedInstructions as instructions;
+ghost use Rattle.jruntime.specs.declared.jstate.shapes.Shapes.{Shapes};
+ghost use Rattle.jruntime.specs.jstate.ObjectCells.{StayCelled};
+ghost use Rattle.jruntime.specs.jstate.HeapMeanings.{AreBuilt, Things, array_at as shape_at, store_by};
+ghost use Rattle.jrows.specs.jacts.ArrayOperands.{HasMade, array_seen, row_of};
+ghost use Rattle.jrows.specs.jacts.RowOutcomes.{Acts, Rests, leaves};
 
 use crate::jacts::jumps::int_at;
 use crate::jacts::straight::give_for;
 use crate::jacts::way::Way;
-use jground::jops::Value;
-use jheap::{Heap, Kind};
 use jlib::{LibClass, Thrown};
-use jmodel::jstate::{Frames, built_laws, celled_laws, heap_laws};
+use jmemory::jheap::{Heap, Kind};
+use jruntime::jstate::{Frames, built_laws, celled_laws, heap_laws};
+use jvalues::jops::Value;
 use std::alloc::{AllocError, Global};
 
 /// What an operand is that is wanted to be an array.
 #[derive(Clone, Copy)]
-pub(crate) enum Found {
+pub(crate) enum ArrayOperand {
     /// No array, or nothing that is there.
     Other,
     Null,
@@ -38,26 +38,26 @@ pub(crate) enum Found {
 
 /// The array that stands at a place among the newest frame's operands, counted from the newest.
 #[inline]
-pub(crate) fn array_at<M: Copy>(frames: &Frames<M>, heap: &Heap, i: usize) -> Found
+pub(crate) fn array_at<M: Copy>(frames: &Frames<M>, heap: &Heap, i: usize) -> ArrayOperand
     ensures { result ≡ array_seen heap.now (slice_get frames.now.newest.operands i) }
 {
     if i >= frames.count() {
-        return Found::Other;
+        return ArrayOperand::Other;
     }
     match frames.operand(i) {
-        Value::Int(_) => Found::Other,
-        Value::Long(_) => Found::Other,
-        Value::Ctx(_) => Found::Other,
+        Value::Int(_) => ArrayOperand::Other,
+        Value::Long(_) => ArrayOperand::Other,
+        Value::Ctx(_) => ArrayOperand::Other,
         Value::Ref(o) => {
             if o == 0 {
-                return Found::Null;
+                return ArrayOperand::Null;
             }
             match heap.found(o) {
-                Some(Kind::Array(a)) => Found::Array(o, a),
-                Some(Kind::Object(_)) => Found::Other,
-                Some(Kind::Text) => Found::Other,
-                Some(Kind::Piece) => Found::Other,
-                None => Found::Other,
+                Some(Kind::Array(a)) => ArrayOperand::Array(o, a),
+                Some(Kind::Object(_)) => ArrayOperand::Other,
+                Some(Kind::Text) => ArrayOperand::Other,
+                Some(Kind::Piece) => ArrayOperand::Other,
+                None => ArrayOperand::Other,
             }
         }
     }
@@ -84,9 +84,9 @@ pub fn array_length<M: Copy>(frames: &mut Frames<M>, heap: &Heap) -> Way
     ensures rests { Rests result frames.old frames.new }
 {
     match array_at(frames, heap, 0) {
-        Found::Other => Way::Stuck,
-        Found::Null => Way::Raises(LibClass::Thrown(Thrown::NullPointerException)),
-        Found::Array(o, _) => {
+        ArrayOperand::Other => Way::Stuck,
+        ArrayOperand::Null => Way::Raises(LibClass::Thrown(Thrown::NullPointerException)),
+        ArrayOperand::Array(o, _) => {
             let len = length_of(heap, o);
             give_for(frames, 1, len);
             Way::Went

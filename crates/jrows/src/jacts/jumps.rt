@@ -1,19 +1,19 @@
 ghost use Rattle.std.specs.Prelude.{◌≡◌, ◌<◌, ◌≤◌, ◌+◌, ◌^◌, ℤ, ℕ, List, Some, drop, length, slice_get};
-ghost use Rattle.jground.specs.jops.Operations;
-ghost use Rattle.jground.specs.declared.jops.value.Value.TheVariants as values;
-ghost use Rattle.jmeaning.specs.juses.Instructions as instructions;
-ghost use Rattle.jmodel.specs.jmachine.Straight.{case_of};
-ghost use Rattle.jmodel.specs.jstate.Framed.{with_newest};
-ghost use Rattle.jrows.specs.jacts.Ways.{Does, NoKey, Rests, branched, int_in};
+ghost use Rattle.jvalues.specs.jops.Operations;
+ghost use Rattle.jvalues.specs.declared.jops.value.Value.TheVariants as values;
+ghost use Rattle.jresolution.specs.juses.IndexedInstructions as instructions;
+ghost use Rattle.jsemantics.specs.jmachine.BasicInstructions.{case_of};
+ghost use Rattle.jruntime.specs.jstate.FrameLists.{with_newest};
+ghost use Rattle.jrows.specs.jacts.RowOutcomes.{Does, NoKey, Rests, branched, int_in};
 
 use crate::jacts::way::Way;
-use jground::jnames::Compare;
-use jground::jops::{Value, test};
-use jmodel::jstate::Frames;
+use jruntime::jstate::Frames;
+use jvalues::jnames::Compare;
+use jvalues::jops::{Value, test};
 
 /// Whether a comparison of two ints holds.
 #[inline]
-#[tactic(auto, using(crate::proofs::JactsProofs::Jumping::compares))]
+#[tactic(auto, using(crate::proofs::JactsProofs::JumpRows::compares))]
 fn holds(c: Compare, x: i32, y: i32) -> bool
     ensures { Some result ≡ Operations.test {K = ℕ} c (values.Int x) (values.Int y) }
 {
@@ -53,7 +53,7 @@ pub fn branch<M: Copy>(frames: &mut Frames<M>, n: usize, holds: bool, to: u32)
 
 /// goto (JVMS 6.5): the frame goes on at a number.
 #[inline]
-#[tactic(auto, using(crate::proofs::JactsProofs::Jumping::always))]
+#[tactic(auto, using(crate::proofs::JactsProofs::JumpRows::always))]
 pub fn goto<M: Copy>(frames: &mut Frames<M>, to: u32) -> Way
     ensures row { Does (instructions.Jump instructions.Always to) frames.old.newest result frames.new.newest }
     ensures below { frames.new.below ≡ frames.old.below }
@@ -65,7 +65,7 @@ pub fn goto<M: Copy>(frames: &mut Frames<M>, to: u32) -> Way
 
 /// A branch that tests an int against 0 (JVMS 6.5: ifeq to ifle).
 #[inline]
-#[tactic(auto, using(crate::proofs::JactsProofs::Jumping::if_done, crate::proofs::JactsProofs::Jumping::if_stuck, crate::proofs::JactsProofs::Jumping::has_one))]
+#[tactic(auto, using(crate::proofs::JactsProofs::JumpRows::if_done, crate::proofs::JactsProofs::JumpRows::if_stuck, crate::proofs::JactsProofs::JumpRows::has_one))]
 pub fn jump_if<M: Copy>(frames: &mut Frames<M>, c: Compare, to: u32) -> Way
     requires { frames.old.newest.place + 1 < 2 ^ 32 }
     ensures row { Does (instructions.Jump (instructions.If c) to) frames.old.newest result frames.new.newest }
@@ -81,7 +81,7 @@ pub fn jump_if<M: Copy>(frames: &mut Frames<M>, c: Compare, to: u32) -> Way
 
 /// A branch that compares two ints (JVMS 6.5: if_icmpeq to if_icmple).
 #[inline]
-#[tactic(auto, using(crate::proofs::JactsProofs::Jumping::if_int_done, crate::proofs::JactsProofs::Jumping::if_int_stuck, crate::proofs::JactsProofs::Jumping::if_int_alone, crate::proofs::JactsProofs::Jumping::has_two))]
+#[tactic(auto, using(crate::proofs::JactsProofs::JumpRows::if_int_done, crate::proofs::JactsProofs::JumpRows::if_int_stuck, crate::proofs::JactsProofs::JumpRows::if_int_alone, crate::proofs::JactsProofs::JumpRows::has_two))]
 pub fn jump_if_int<M: Copy>(frames: &mut Frames<M>, c: Compare, to: u32) -> Way
     requires { frames.old.newest.place + 1 < 2 ^ 32 }
     ensures row { Does (instructions.Jump (instructions.IfInt c) to) frames.old.newest result frames.new.newest }
@@ -108,7 +108,7 @@ pub fn switch_key<M: Copy>(frames: &Frames<M>) -> Option<i32>
 
 /// A switch, which goes on at the number of its key (JVMS 6.5: tableswitch, lookupswitch).
 #[inline]
-#[tactic(auto, using(crate::proofs::JactsProofs::Jumping::switched, crate::proofs::JactsProofs::Jumping::has_one))]
+#[tactic(auto, using(crate::proofs::JactsProofs::JumpRows::switched, crate::proofs::JactsProofs::JumpRows::has_one))]
 pub fn switch<M: Copy>(frames: &mut Frames<M>, key: i32, to: u32) -> Way
     requires { Some key ≡ int_in (slice_get frames.old.newest.operands 0) }
     ensures row { (cases : List (ℤ × ℕ)) (other : ℕ) → to ≡ case_of key cases other → Does (instructions.Switch cases other) frames.old.newest result frames.new.newest }
@@ -121,7 +121,7 @@ pub fn switch<M: Copy>(frames: &mut Frames<M>, key: i32, to: u32) -> Way
 }
 
 /// A switch that finds no key has no step. It has no body to run; its contract is the law.
-#[tactic(auto, using(crate::proofs::JactsProofs::Jumping::no_key))]
+#[tactic(auto, using(crate::proofs::JactsProofs::JumpRows::no_key))]
 pub fn switch_laws<M>()
     ensures { NoKey M }
 {}

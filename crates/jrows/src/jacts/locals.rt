@@ -1,26 +1,26 @@
 ghost use Rattle.std.specs.Prelude.{◌≡◌, ◌<◌, ◌≤◌, ◌+◌, ◌+ℤ◌, ◌^◌, IfOk, OnOk, length, ℕ};
 ghost use Rattle.std.specs.Int.{int_wrap, w32};
-ghost use Rattle.jground.specs.declared.jops.value.Value.TheVariants as values;
-ghost use Rattle.jparts.specs.jcode.Forms;
-ghost use Rattle.jparts.specs.declared.jcode.form.LocalForm.TheVariants.{Increment, Move};
+ghost use Rattle.jvalues.specs.declared.jops.value.Value.TheVariants as values;
+ghost use Rattle.jparts.specs.jcode.InstructionForms;
+ghost use Rattle.jparts.specs.declared.jcode.op_form.LocalForm.TheVariants.{Increment, Move};
 ghost use Rattle.jparts.specs.declared.jcode.names.Access.TheVariants.{Load, Store};
-ghost use Rattle.jground.specs.jops.Shuffles;
-ghost use Rattle.jmeaning.specs.juses.Instructions as instructions;
-ghost use Rattle.jmodel.specs.jmachine.Straight.{places, with_local};
-ghost use Rattle.jmodel.specs.jstate.Framed.{keeping};
-ghost use Rattle.jrows.specs.jacts.Ways.{Does, Rests, int_in};
+ghost use Rattle.jvalues.specs.jops.Shuffles;
+ghost use Rattle.jresolution.specs.juses.IndexedInstructions as instructions;
+ghost use Rattle.jsemantics.specs.jmachine.BasicInstructions.{places, with_local};
+ghost use Rattle.jruntime.specs.jstate.FrameLists.{keeping};
+ghost use Rattle.jrows.specs.jacts.RowOutcomes.{Does, Rests, int_in};
 
 use crate::jacts::straight::push;
 use crate::jacts::way::Way;
-use jground::jnames::Kind;
-use jground::jops::Value;
-use jmodel::jstate::Frames;
 use jparts::jcode::{Access, LocalForm, LocalKind};
+use jruntime::jstate::Frames;
+use jvalues::jnames::Kind;
+use jvalues::jops::Value;
 use std::alloc::AllocError;
 
 #[inline]
 fn kind_of(kind: LocalKind) -> Kind
-    ensures { result ≡ Forms.local kind }
+    ensures { result ≡ InstructionForms.local kind }
 {
     match kind {
         LocalKind::Int => Kind::Int,
@@ -62,7 +62,7 @@ fn put_local<M: Copy>(frames: &mut Frames<M>, n: usize, value: Value)
 }
 
 #[inline]
-#[tactic(auto, using(crate::proofs::JactsProofs::Keeping::loaded_on, crate::proofs::JactsProofs::Keeping::load_stuck, crate::proofs::JactsProofs::Keeping::load_other))]
+#[tactic(auto, using(crate::proofs::JactsProofs::LocalInstructions::loaded_on, crate::proofs::JactsProofs::LocalInstructions::load_stuck, crate::proofs::JactsProofs::LocalInstructions::load_other))]
 fn load<M: Copy>(frames: &mut Frames<M>, kind: LocalKind, n: u16) -> Result<Way, AllocError>
     requires { frames.old.newest.place + 1 < 2 ^ 32 }
     ensures row { IfOk result (λ way. Does (instructions.Local (Move Load kind n)) frames.old.newest way frames.new.newest) }
@@ -81,7 +81,7 @@ fn load<M: Copy>(frames: &mut Frames<M>, kind: LocalKind, n: u16) -> Result<Way,
 }
 
 #[inline]
-#[tactic(auto, using(crate::proofs::JactsProofs::Keeping::stored_on, crate::proofs::JactsProofs::Keeping::store_short, crate::proofs::JactsProofs::Keeping::store_other, crate::proofs::JactsProofs::Keeping::store_outside))]
+#[tactic(auto, using(crate::proofs::JactsProofs::LocalInstructions::stored_on, crate::proofs::JactsProofs::LocalInstructions::store_short, crate::proofs::JactsProofs::LocalInstructions::store_other, crate::proofs::JactsProofs::LocalInstructions::store_outside))]
 fn store<M: Copy>(frames: &mut Frames<M>, kind: LocalKind, n: u16) -> Way
     requires { frames.old.newest.place + 1 < 2 ^ 32 }
     ensures row { Does (instructions.Local (Move Store kind n)) frames.old.newest result frames.new.newest }
@@ -134,7 +134,7 @@ fn increased(x: i32, by: i16) -> Value
 }
 
 #[inline]
-#[tactic(auto, using(crate::proofs::JactsProofs::Keeping::increased_on, crate::proofs::JactsProofs::Keeping::increase_stuck, crate::proofs::JactsProofs::Keeping::has_local))]
+#[tactic(auto, using(crate::proofs::JactsProofs::LocalInstructions::increased_on, crate::proofs::JactsProofs::LocalInstructions::increase_stuck, crate::proofs::JactsProofs::LocalInstructions::has_local))]
 fn increment<M: Copy>(frames: &mut Frames<M>, n: u16, by: i16) -> Way
     requires { frames.old.newest.place + 1 < 2 ^ 32 }
     ensures row { Does (instructions.Local (Increment n by)) frames.old.newest result frames.new.newest }

@@ -1,12 +1,12 @@
 ghost use Rattle.std.specs.Prelude.{◌≡◌, ◌<◌, ◌∷◌, List, IfSome, option_map, ℕ};
-ghost use Rattle.jground.specs.declared.jops.value.Value.{Value as Operand};
-ghost use Rattle.jground.specs.declared.jnames.names.Shuffle.TheVariants.{Pop, Pop2, Dup, DupX1, DupX2, Dup2, Dup2X1, Dup2X2, Swap};
-ghost use Rattle.jground.specs.jops.Shuffles;
-ghost use Rattle.jground.specs.jops.Shuffles.{Item};
-ghost use Rattle.jrows.specs.jacts.Moves.{four, laid, on};
+ghost use Rattle.jvalues.specs.declared.jops.value.Value.{Value as Operand};
+ghost use Rattle.jvalues.specs.declared.jnames.names.Shuffle.TheVariants.{Pop, Pop2, Dup, DupX1, DupX2, Dup2, Dup2X1, Dup2X2, Swap};
+ghost use Rattle.jvalues.specs.jops.Shuffles;
+ghost use Rattle.jvalues.specs.jops.Shuffles.{Item};
+ghost use Rattle.jrows.specs.jacts.StackMoves.{four, laid, on};
 
-use jground::jnames::Shuffle;
-use jground::jops::Value;
+use jvalues::jnames::Shuffle;
+use jvalues::jops::Value;
 
 /// One of the newest items of a stack, where it is there: one that is no long, or a long (JVMS 2.11.1).
 #[derive(Clone, Copy)]
@@ -28,7 +28,7 @@ pub(crate) enum Laid {
 }
 
 #[inline]
-#[tactic(auto, unfolding(jground::specs::jops::Shuffles::shuffle))]
+#[tactic(auto, unfolding(jvalues::specs::jops::Shuffles::shuffle))]
 fn pop(a: Top) -> Option<Laid>
     ensures moves { (below : List (Item (Operand ℕ))) → option_map laid result ≡ Shuffles.shuffle Pop (on a below) }
     ensures some { IfSome result (λ l. 0 < (laid l).taken) }
@@ -41,7 +41,7 @@ fn pop(a: Top) -> Option<Laid>
 }
 
 #[inline]
-#[tactic(auto, unfolding(jground::specs::jops::Shuffles::shuffle))]
+#[tactic(auto, unfolding(jvalues::specs::jops::Shuffles::shuffle))]
 fn pop2(a: Top, b: Top) -> Option<Laid>
     ensures moves { (below : List (Item (Operand ℕ))) → option_map laid result ≡ Shuffles.shuffle Pop2 (on a (on b below)) }
     ensures some { IfSome result (λ l. 0 < (laid l).taken) }
@@ -58,7 +58,7 @@ fn pop2(a: Top, b: Top) -> Option<Laid>
 }
 
 #[inline]
-#[tactic(auto, unfolding(jground::specs::jops::Shuffles::shuffle))]
+#[tactic(auto, unfolding(jvalues::specs::jops::Shuffles::shuffle))]
 fn dup(a: Top) -> Option<Laid>
     ensures moves { (below : List (Item (Operand ℕ))) → option_map laid result ≡ Shuffles.shuffle Dup (on a below) }
     ensures some { IfSome result (λ l. 0 < (laid l).taken) }
@@ -71,7 +71,7 @@ fn dup(a: Top) -> Option<Laid>
 }
 
 #[inline]
-#[tactic(auto, unfolding(jground::specs::jops::Shuffles::shuffle))]
+#[tactic(auto, unfolding(jvalues::specs::jops::Shuffles::shuffle))]
 fn dup_x1(a: Top, b: Top) -> Option<Laid>
     ensures moves { (below : List (Item (Operand ℕ))) → option_map laid result ≡ Shuffles.shuffle DupX1 (on a (on b below)) }
     ensures some { IfSome result (λ l. 0 < (laid l).taken) }
@@ -88,7 +88,7 @@ fn dup_x1(a: Top, b: Top) -> Option<Laid>
 }
 
 #[inline]
-#[tactic(auto, unfolding(jground::specs::jops::Shuffles::shuffle))]
+#[tactic(auto, unfolding(jvalues::specs::jops::Shuffles::shuffle))]
 fn dup_x2(a: Top, b: Top, c: Top) -> Option<Laid>
     ensures moves { (below : List (Item (Operand ℕ))) → option_map laid result ≡ Shuffles.shuffle DupX2 (on a (on b (on c below))) }
     ensures some { IfSome result (λ l. 0 < (laid l).taken) }
@@ -109,7 +109,7 @@ fn dup_x2(a: Top, b: Top, c: Top) -> Option<Laid>
 }
 
 #[inline]
-#[tactic(auto, unfolding(jground::specs::jops::Shuffles::shuffle))]
+#[tactic(auto, unfolding(jvalues::specs::jops::Shuffles::shuffle))]
 fn dup2(a: Top, b: Top) -> Option<Laid>
     ensures moves { (below : List (Item (Operand ℕ))) → option_map laid result ≡ Shuffles.shuffle Dup2 (on a (on b below)) }
     ensures some { IfSome result (λ l. 0 < (laid l).taken) }
@@ -126,7 +126,7 @@ fn dup2(a: Top, b: Top) -> Option<Laid>
 }
 
 #[inline]
-#[tactic(auto, unfolding(jground::specs::jops::Shuffles::shuffle))]
+#[tactic(auto, unfolding(jvalues::specs::jops::Shuffles::shuffle))]
 fn dup2_x1(a: Top, b: Top, c: Top) -> Option<Laid>
     ensures moves { (below : List (Item (Operand ℕ))) → option_map laid result ≡ Shuffles.shuffle Dup2X1 (on a (on b (on c below))) }
     ensures some { IfSome result (λ l. 0 < (laid l).taken) }
@@ -152,7 +152,7 @@ fn dup2_x1(a: Top, b: Top, c: Top) -> Option<Laid>
 
 /// The forms of dup2_x2 whose newest item is a long.
 #[inline]
-#[tactic(auto, unfolding(jground::specs::jops::Shuffles::shuffle))]
+#[tactic(auto, unfolding(jvalues::specs::jops::Shuffles::shuffle))]
 fn dup_long_x2(x: Value, b: Top, c: Top) -> Option<Laid>
     ensures moves { (below : List (Item (Operand ℕ))) → option_map laid result ≡ Shuffles.shuffle Dup2X2 (Shuffles.Two x ∷ on b (on c below)) }
     ensures some { IfSome result (λ l. 0 < (laid l).taken) }
@@ -170,7 +170,7 @@ fn dup_long_x2(x: Value, b: Top, c: Top) -> Option<Laid>
 
 /// The forms of dup2_x2 whose newest item is no long.
 #[inline]
-#[tactic(auto, unfolding(jground::specs::jops::Shuffles::shuffle))]
+#[tactic(auto, unfolding(jvalues::specs::jops::Shuffles::shuffle))]
 fn dup_two_x2(x: Value, b: Top, c: Top, d: Top) -> Option<Laid>
     ensures moves { (below : List (Item (Operand ℕ))) → option_map laid result ≡ Shuffles.shuffle Dup2X2 (Shuffles.One x ∷ on b (on c (on d below))) }
     ensures some { IfSome result (λ l. 0 < (laid l).taken) }
@@ -191,7 +191,7 @@ fn dup_two_x2(x: Value, b: Top, c: Top, d: Top) -> Option<Laid>
 }
 
 #[inline]
-#[tactic(auto, unfolding(jground::specs::jops::Shuffles::shuffle))]
+#[tactic(auto, unfolding(jvalues::specs::jops::Shuffles::shuffle))]
 fn dup2_x2(a: Top, b: Top, c: Top, d: Top) -> Option<Laid>
     ensures moves { (below : List (Item (Operand ℕ))) → option_map laid result ≡ Shuffles.shuffle Dup2X2 (on a (on b (on c (on d below)))) }
     ensures some { IfSome result (λ l. 0 < (laid l).taken) }
@@ -204,7 +204,7 @@ fn dup2_x2(a: Top, b: Top, c: Top, d: Top) -> Option<Laid>
 }
 
 #[inline]
-#[tactic(auto, unfolding(jground::specs::jops::Shuffles::shuffle))]
+#[tactic(auto, unfolding(jvalues::specs::jops::Shuffles::shuffle))]
 fn swap(a: Top, b: Top) -> Option<Laid>
     ensures moves { (below : List (Item (Operand ℕ))) → option_map laid result ≡ Shuffles.shuffle Swap (on a (on b below)) }
     ensures some { IfSome result (λ l. 0 < (laid l).taken) }
@@ -222,7 +222,7 @@ fn swap(a: Top, b: Top) -> Option<Laid>
 
 /// What an instruction that moves the newest items makes of them, where one of its forms fits.
 #[inline]
-#[tactic(auto, unfolding(jground::specs::jops::Shuffles::shuffle))]
+#[tactic(auto, unfolding(jvalues::specs::jops::Shuffles::shuffle))]
 pub(crate) fn moves_of(op: Shuffle, a: Top, b: Top, c: Top, d: Top) -> Option<Laid>
     ensures moves { option_map laid result ≡ Shuffles.shuffle op (four a b c d) }
     ensures some { IfSome result (λ l. 0 < (laid l).taken) }

@@ -1,10 +1,10 @@
 ghost use Rattle.std.specs.Prelude.{◌≡◌, ◌∷◌, [], is_some};
-ghost use Rattle.jground.specs.jnames.Effects.{division_effect, one_effect, two_effect};
-ghost use Rattle.jground.specs.jops.Kinds.{are_of};
-ghost use Rattle.jground.specs.jops.Operations;
+ghost use Rattle.jvalues.specs.jnames.Effects.{division_effect, one_effect, two_effect};
+ghost use Rattle.jvalues.specs.jops.ValueKinds.{are_of};
+ghost use Rattle.jvalues.specs.jops.Operations;
 
-use jground::jnames::{Division, Kind, Kinds, OpOne, OpTwo};
-use jground::jops::{DivideByZero, Value, divide, kind_laws, one, two};
+use jvalues::jnames::{Division, Kind, Kinds, OpOne, OpTwo};
+use jvalues::jops::{DivideByZero, Value, divide, kind_laws, one, two};
 
 // ---- the kinds that instructions take
 
@@ -83,7 +83,7 @@ fn is_one(kinds: Kinds, a: Value) -> bool
 
 /// What an instruction with two operands gives, but for divisions; `b` is the newer operand.
 #[inline]
-#[tactic(auto, using(crate::proofs::JactsProofs::Given::is_given, crate::proofs::JactsProofs::Given::not_given))]
+#[tactic(auto, using(crate::proofs::JactsProofs::GivenValues::is_given, crate::proofs::JactsProofs::GivenValues::not_given))]
 pub(crate) fn two_of(op: OpTwo, a: Value, b: Value) -> Option<Value>
     ensures value { result ≡ Operations.two op a b }
     ensures kinds { is_some result ≡ are_of (two_effect op).takes (b ∷ a ∷ []) }
@@ -97,7 +97,7 @@ pub(crate) fn two_of(op: OpTwo, a: Value, b: Value) -> Option<Value>
 
 /// What a division gives; `b` is the divisor.
 #[inline]
-#[tactic(auto, using(crate::proofs::JactsProofs::Given::is_given, crate::proofs::JactsProofs::Given::not_given))]
+#[tactic(auto, using(crate::proofs::JactsProofs::GivenValues::is_given, crate::proofs::JactsProofs::GivenValues::not_given))]
 pub(crate) fn division_of(op: Division, a: Value, b: Value) -> Option<Result<Value, DivideByZero>>
     ensures value { result ≡ Operations.divide op a b }
     ensures kinds { is_some result ≡ are_of (division_effect op).takes (b ∷ a ∷ []) }
@@ -111,7 +111,7 @@ pub(crate) fn division_of(op: Division, a: Value, b: Value) -> Option<Result<Val
 
 /// What an instruction with one operand gives.
 #[inline]
-#[tactic(auto, using(crate::proofs::JactsProofs::Given::is_given, crate::proofs::JactsProofs::Given::not_given))]
+#[tactic(auto, using(crate::proofs::JactsProofs::GivenValues::is_given, crate::proofs::JactsProofs::GivenValues::not_given))]
 pub(crate) fn one_of(op: OpOne, a: Value) -> Option<Value>
     ensures value { result ≡ Operations.one op a }
     ensures kinds { is_some result ≡ are_of (one_effect op).takes (a ∷ []) }

@@ -1,18 +1,18 @@
 ghost use Rattle.std.specs.Prelude.{◌≡◌, ◌<◌, ◌≤◌, ◌+◌, ◌^◌, ◌∷◌, IfOk, OnOk, drop, length, slice_get};
-ghost use Rattle.jmeaning.specs.juses.Instructions as instructions;
-ghost use Rattle.jmodel.specs.jmachine.Frames.{standing};
-ghost use Rattle.jmodel.specs.jmachine.Straight.{moved};
-ghost use Rattle.jmodel.specs.jstate.Framed.{holding, with_newest};
-ghost use Rattle.jrows.specs.jacts.Moves.{laid as move_of, top_seen};
-ghost use Rattle.jrows.specs.jacts.Ways.{Does, Rests};
+ghost use Rattle.jresolution.specs.juses.IndexedInstructions as instructions;
+ghost use Rattle.jsemantics.specs.jmachine.FrameOperations.{standing};
+ghost use Rattle.jsemantics.specs.jmachine.BasicInstructions.{moved};
+ghost use Rattle.jruntime.specs.jstate.FrameLists.{holding, with_newest};
+ghost use Rattle.jrows.specs.jacts.StackMoves.{laid as move_of, top_seen};
+ghost use Rattle.jrows.specs.jacts.RowOutcomes.{Does, Rests};
 ghost use Rattle.jrows.specs.declared.jacts.way.Way.TheVariants as ways;
 
 use crate::jacts::locals::is_long;
 use crate::jacts::moves::{Laid, Top, moves_of};
 use crate::jacts::way::Way;
-use jground::jnames::Shuffle;
-use jground::jops::{Value, shuffle_laws};
-use jmodel::jstate::Frames;
+use jruntime::jstate::Frames;
+use jvalues::jnames::Shuffle;
+use jvalues::jops::{Value, shuffle_laws};
 use std::alloc::AllocError;
 
 /// An item of the newest frame's stack, counted from its newest.

@@ -1,39 +1,39 @@
 ghost use Rattle.std.specs.Prelude.{◌≡◌, ◌<◌, ◌≤◌, ◌+◌, ◌^◌, [], ℕ, List, Some, drop, false, is_some, length, slice_get, true};
-ghost use Rattle.jparts.specs.jcode.Forms;
+ghost use Rattle.jparts.specs.jcode.InstructionForms;
 ghost use Rattle.jparts.specs.declared.jcode.names.Element.TheVariants as items;
-ghost use Rattle.jparts.specs.declared.jcode.form.ArrayForm.TheVariants as forms;
-ghost use Rattle.jheap.specs.Heaps.{cells_at, look_at, object_at, with_cell};
-ghost use Rattle.jheap.specs.Raw;
-ghost use Rattle.jmodel.specs.jmachine.Narrowing;
-ghost use Rattle.jground.specs.jops.Kinds.{is_of};
-ghost use Rattle.jprogram.specs.Classes.{Program};
-ghost use Rattle.jmeaning.specs.jrule.Effects.{same_items};
-ghost use Rattle.jmeaning.specs.juses.Instructions as instructions;
-ghost use Rattle.jmeaning.specs.juses.Types.{element_named, array_named};
-ghost use Rattle.jmodel.specs.jstate.Framed.{with_newest};
-ghost use Rattle.jmodel.specs.jstate.Celled.{StayCelled};
-ghost use Rattle.jmodel.specs.jstate.Seen.{AreBuilt, Things, array_at, store_by};
-ghost use Rattle.jmodel.specs.jmachine.Arrays as rows;
-ghost use Rattle.jrows.specs.jacts.Accesses.{HasPut, kept_if};
-ghost use Rattle.jrows.specs.jacts.Ways.{Acts, Rests, leaves};
+ghost use Rattle.jparts.specs.declared.jcode.op_form.ArrayForm.TheVariants as forms;
+ghost use Rattle.jmemory.specs.jheap.Heaps.{cells_at, look_at, object_at, with_cell};
+ghost use Rattle.jmemory.specs.jheap.RawValues;
+ghost use Rattle.jsemantics.specs.jmachine.Narrowing;
+ghost use Rattle.jvalues.specs.jops.ValueKinds.{is_of};
+ghost use Rattle.jresolution.specs.jprogram.ProgramClasses.{Program};
+ghost use Rattle.jtyping.specs.jrule.StackEffects.{same_items};
+ghost use Rattle.jresolution.specs.juses.IndexedInstructions as instructions;
+ghost use Rattle.jresolution.specs.juses.InternedTypes.{element_named, array_named};
+ghost use Rattle.jruntime.specs.jstate.FrameLists.{with_newest};
+ghost use Rattle.jruntime.specs.jstate.ObjectCells.{StayCelled};
+ghost use Rattle.jruntime.specs.jstate.HeapMeanings.{AreBuilt, Things, array_at, store_by};
+ghost use Rattle.jsemantics.specs.jmachine.ArrayInstructions as rows;
+ghost use Rattle.jrows.specs.jacts.ArrayAccesses.{HasPut, kept_if};
+ghost use Rattle.jrows.specs.jacts.RowOutcomes.{Acts, Rests, leaves};
 
 use crate::jacts::access::{items_at, within};
-use crate::jacts::arrays::Found;
+use crate::jacts::arrays::ArrayOperand;
 use crate::jacts::jumps::int_at;
 use crate::jacts::way::Way;
-use jground::jnames::{Kind, OpOne};
-use jground::jops::{Value, one};
-use jheap::{Heap, Look, raw_laws};
 use jlib::{LibClass, Thrown};
-use jmeaning::juses::{ArrayRef, ElementRef};
-use jmodel::jstate::{
+use jmemory::jheap::{Heap, Look, raw_laws};
+use jparts::jcode::Element;
+use jresolution::juses::{ArrayRef, ElementRef};
+use jruntime::jstate::{
     Frames, Shapes, built_laws, celled_laws, element_of, heap_laws, numbers_at, row_type,
 };
-use jparts::jcode::Element;
+use jvalues::jnames::{Kind, OpOne};
+use jvalues::jops::{Value, one};
 
 /// What is left of a value in an array of such elements.
 #[inline]
-#[tactic(auto, unfolding(jground::specs::jops::Operations::one))]
+#[tactic(auto, unfolding(jvalues::specs::jops::Operations::one))]
 pub fn narrowed(element: ElementRef, value: Value) -> Value
     ensures { (p : Program) → result ≡ Narrowing.narrowed (Some (element_named p element)) value }
 {
@@ -66,7 +66,7 @@ fn held_by(a: ArrayRef, value: Value) -> Value
 
 /// What is left of a value in the arrays of a number of the heap. Where the number says what they hold, no type is looked up.
 #[inline]
-#[tactic(auto, using(crate::proofs::JactsProofs::Puts::held_row))]
+#[tactic(auto, using(crate::proofs::JactsProofs::NumberStores::held_row))]
 fn held_in(shapes: &Shapes, number: u32, value: Value) -> Value
     ensures { (p : Program) → result ≡ Narrowing.narrowed (Narrowing.held_by (array_named p (array_at shapes.now number))) value }
 {
@@ -81,8 +81,8 @@ fn held_in(shapes: &Shapes, number: u32, value: Value) -> Value
 pub fn put_at(heap: &mut Heap, look: Look, k: u32, value: Value)
     requires good { look_at heap.old look.object ≡ Some look }
     requires there { k < look.len }
-    ensures heap { heap.new ≡ with_cell heap.old look.object k (Raw.raw value) }
-    ensures back { Raw.of_raw (Raw.type_of value) (Raw.raw value) ≡ value }
+    ensures heap { heap.new ≡ with_cell heap.old look.object k (RawValues.raw value) }
+    ensures back { RawValues.of_raw (RawValues.type_of value) (RawValues.raw value) ≡ value }
 {
     raw_laws();
     heap.set_at(look, k, value);
@@ -91,7 +91,7 @@ pub fn put_at(heap: &mut Heap, look: Look, k: u32, value: Value)
 /// The kind of what an array holds.
 #[inline]
 fn kind_of(e: Element) -> Kind
-    ensures { result ≡ Forms.element e }
+    ensures { result ≡ InstructionForms.element e }
 {
     match e {
         Element::Int => Kind::Int,
@@ -106,7 +106,7 @@ fn kind_of(e: Element) -> Kind
 /// The number that is stored, where it is of the kind of what the array holds.
 #[inline]
 fn stored<M: Copy>(frames: &Frames<M>, e: Element) -> Option<Value>
-    ensures { result ≡ kept_if (Forms.element e) (slice_get frames.now.newest.operands 0) }
+    ensures { result ≡ kept_if (InstructionForms.element e) (slice_get frames.now.newest.operands 0) }
 {
     if frames.count() < 1 {
         return None;
@@ -168,8 +168,8 @@ pub fn array_store<M: Copy>(
         return Way::Stuck;
     };
     match items_at(frames, heap, shapes, 2, e) {
-        Found::Other => Way::Stuck,
-        Found::Null => Way::Raises(LibClass::Thrown(Thrown::NullPointerException)),
-        Found::Array(o, a) => put_item(frames, heap, o, i, held_in(shapes, a, value)),
+        ArrayOperand::Other => Way::Stuck,
+        ArrayOperand::Null => Way::Raises(LibClass::Thrown(Thrown::NullPointerException)),
+        ArrayOperand::Array(o, a) => put_item(frames, heap, o, i, held_in(shapes, a, value)),
     }
 }

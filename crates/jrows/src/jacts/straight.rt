@@ -1,19 +1,19 @@
 ghost use Rattle.std.specs.Prelude.{◌≡◌, ◌<◌, ◌≤◌, ◌+◌, ◌^◌, ◌∷◌, [], IfOk, OnOk, drop, length};
-ghost use Rattle.jmeaning.specs.juses.Instructions as instructions;
-ghost use Rattle.jparts.specs.declared.jcode.form.Simple.TheVariants as simples;
-ghost use Rattle.jground.specs.declared.jops.value.Value.TheVariants as values;
-ghost use Rattle.jmodel.specs.jmachine.Frames.{onward, standing};
-ghost use Rattle.jmodel.specs.jstate.Framed.{with_newest};
-ghost use Rattle.jrows.specs.jacts.Ways.{Does, Rests};
+ghost use Rattle.jresolution.specs.juses.IndexedInstructions as instructions;
+ghost use Rattle.jparts.specs.declared.jcode.op_form.Simple.TheVariants as simples;
+ghost use Rattle.jvalues.specs.declared.jops.value.Value.TheVariants as values;
+ghost use Rattle.jsemantics.specs.jmachine.FrameOperations.{onward, standing};
+ghost use Rattle.jruntime.specs.jstate.FrameLists.{with_newest};
+ghost use Rattle.jrows.specs.jacts.RowOutcomes.{Does, Rests};
 ghost use Rattle.jrows.specs.declared.jacts.way.Way.TheVariants as ways;
 
 use crate::jacts::ops::{division_of, one_of, two_of};
 use crate::jacts::way::Way;
-use jground::jnames::{Division, OpOne, OpTwo};
-use jground::jops::Value;
 use jlib::{LibClass, Thrown};
-use jmodel::jstate::Frames;
 use jparts::jcode::Simple;
+use jruntime::jstate::Frames;
+use jvalues::jnames::{Division, OpOne, OpTwo};
+use jvalues::jops::Value;
 use std::alloc::AllocError;
 
 /// The frame goes on behind its instruction with one more operand.
@@ -69,7 +69,7 @@ fn push_long<M: Copy>(frames: &mut Frames<M>, n: i64) -> Result<Way, AllocError>
 }
 
 #[inline]
-#[tactic(auto, using(crate::proofs::JactsProofs::Computing::two_done, crate::proofs::JactsProofs::Computing::two_stuck, crate::proofs::JactsProofs::Computing::two_short))]
+#[tactic(auto, using(crate::proofs::JactsProofs::OperandInstructions::two_done, crate::proofs::JactsProofs::OperandInstructions::two_stuck, crate::proofs::JactsProofs::OperandInstructions::two_short))]
 fn compute_two<M: Copy>(frames: &mut Frames<M>, op: OpTwo) -> Way
     requires { frames.old.newest.place + 1 < 2 ^ 32 }
     ensures row { Does (instructions.Simple (simples.Two op)) frames.old.newest result frames.new.newest }
@@ -89,7 +89,7 @@ fn compute_two<M: Copy>(frames: &mut Frames<M>, op: OpTwo) -> Way
 }
 
 #[inline]
-#[tactic(auto, using(crate::proofs::JactsProofs::Computing::one_done, crate::proofs::JactsProofs::Computing::one_stuck, crate::proofs::JactsProofs::Computing::one_short))]
+#[tactic(auto, using(crate::proofs::JactsProofs::OperandInstructions::one_done, crate::proofs::JactsProofs::OperandInstructions::one_stuck, crate::proofs::JactsProofs::OperandInstructions::one_short))]
 fn compute_one<M: Copy>(frames: &mut Frames<M>, op: OpOne) -> Way
     requires { frames.old.newest.place + 1 < 2 ^ 32 }
     ensures row { Does (instructions.Simple (simples.One op)) frames.old.newest result frames.new.newest }
@@ -109,7 +109,7 @@ fn compute_one<M: Copy>(frames: &mut Frames<M>, op: OpOne) -> Way
 }
 
 #[inline]
-#[tactic(auto, using(crate::proofs::JactsProofs::Computing::divided, crate::proofs::JactsProofs::Computing::by_zero, crate::proofs::JactsProofs::Computing::division_stuck, crate::proofs::JactsProofs::Computing::division_short))]
+#[tactic(auto, using(crate::proofs::JactsProofs::OperandInstructions::divided, crate::proofs::JactsProofs::OperandInstructions::by_zero, crate::proofs::JactsProofs::OperandInstructions::division_stuck, crate::proofs::JactsProofs::OperandInstructions::division_short))]
 fn divide<M: Copy>(frames: &mut Frames<M>, op: Division) -> Way
     requires { frames.old.newest.place + 1 < 2 ^ 32 }
     ensures row { Does (instructions.Simple (simples.Divide op)) frames.old.newest result frames.new.newest }
@@ -131,7 +131,7 @@ fn divide<M: Copy>(frames: &mut Frames<M>, op: Division) -> Way
 
 /// An instruction that pushes a number or null, or computes with numbers (JVMS 6.5). A division by 0 raises an exception.
 #[inline]
-#[tactic(auto, using(crate::proofs::JactsProofs::Computing::nothing_done, crate::proofs::JactsProofs::Computing::null_done, crate::proofs::JactsProofs::Computing::int_done, crate::proofs::JactsProofs::Computing::long_done))]
+#[tactic(auto, using(crate::proofs::JactsProofs::OperandInstructions::nothing_done, crate::proofs::JactsProofs::OperandInstructions::null_done, crate::proofs::JactsProofs::OperandInstructions::int_done, crate::proofs::JactsProofs::OperandInstructions::long_done))]
 pub fn simple<M: Copy>(frames: &mut Frames<M>, form: Simple) -> Result<Way, AllocError>
     requires { frames.old.newest.place + 1 < 2 ^ 32 }
     ensures row { IfOk result (λ way. Does (instructions.Simple form) frames.old.newest way frames.new.newest) }

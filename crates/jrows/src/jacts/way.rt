@@ -1,4 +1,4 @@
-ghost use Rattle.jrows.specs.jacts.Ways.{GoesFree};
+ghost use Rattle.jrows.specs.jacts.RowOutcomes.{GoesFree};
 
 use jlib::LibClass;
 

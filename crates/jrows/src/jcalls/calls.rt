@@ -1,14 +1,14 @@
 ghost use Rattle.std.specs.Prelude.{◌≡◌, ◌≤◌, IfOk, drop, length, nat_le};
-ghost use Rattle.jmodel.specs.jstate.Framed.{all, holding};
+ghost use Rattle.jruntime.specs.jstate.FrameLists.{all, holding};
 ghost use Rattle.jlib.specs.declared.classes.LibClass.TheVariants as lib;
 ghost use Rattle.jrows.specs.declared.jcalls.calls.Called.TheVariants as ways;
-ghost use Rattle.jrows.specs.declared.jcalls.calls.Found.TheVariants as found;
-ghost use Rattle.jrows.specs.jcalls.Calling.{CallLeaves, CallsByInterface, CallsOn, CallsStanding, CallsStatic, Reaches};
+ghost use Rattle.jrows.specs.declared.jcalls.calls.Selection.TheVariants as found;
+ghost use Rattle.jrows.specs.jcalls.MethodCalls.{CallLeaves, CallsByInterface, CallsOn, CallsStanding, CallsStatic, Reaches};
 
 use crate::jcalls::receiver::Receiver;
 use jlib::{LibCall, LibClass, Thrown};
-use jmodel::jstate::{Frames, heap_laws};
-use jprogram::MethodId;
+use jresolution::jprogram::MethodId;
+use jruntime::jstate::{Frames, heap_laws};
 use std::alloc::AllocError;
 
 /// A user's method, as far as a call asks.
@@ -27,7 +27,7 @@ pub struct Callee<M> {
 
 /// What is selected where a method is called.
 #[derive(Clone, Copy)]
-pub enum Found<M> {
+pub enum Selection<M> {
     Method(Callee<M>),
     Lib(LibCall),
     /// A method without code.
@@ -75,7 +75,7 @@ fn raise<M: Copy>(frames: &mut Frames<M>, count: usize, class: Thrown) -> Called
 
 /// A frame of a user's method begins, where it has code and there is room.
 #[inline]
-#[tactic(auto, using(crate::proofs::JcallsProofs::Entering::enterings, crate::proofs::JcallsProofs::Standing::raised_thrown, crate::proofs::JcallsProofs::Standing::raised_stands, crate::proofs::JcallsProofs::Standing::begun_stands))]
+#[tactic(auto, using(crate::proofs::JcallsProofs::MethodEntry::enterings, crate::proofs::JcallsProofs::FrameStability::raised_thrown, crate::proofs::JcallsProofs::FrameStability::raised_stands, crate::proofs::JcallsProofs::FrameStability::begun_stands))]
 fn enter<M: Copy>(
     frames: &mut Frames<M>,
     count: usize,
@@ -100,11 +100,11 @@ fn enter<M: Copy>(
 
 /// What is selected is reached.
 #[inline]
-#[tactic(auto, using(crate::proofs::JcallsProofs::Entering::reachings, crate::proofs::JcallsProofs::Standing::raised_thrown, crate::proofs::JcallsProofs::Standing::raised_stands))]
+#[tactic(auto, using(crate::proofs::JcallsProofs::MethodEntry::reachings, crate::proofs::JcallsProofs::FrameStability::raised_thrown, crate::proofs::JcallsProofs::FrameStability::raised_stands))]
 fn reach<M: Copy>(
     frames: &mut Frames<M>,
     count: usize,
-    what: Found<M>,
+    what: Selection<M>,
     room: Room,
 ) -> Result<Called, AllocError>
     requires few { count ≤ length frames.old.newest.operands }
@@ -114,10 +114,10 @@ fn reach<M: Copy>(
     ensures stand { IfOk result (λ way. CallsStanding what frames.old way frames.new) }
 {
     match what {
-        Found::Method(callee) => enter(frames, count, callee, room),
-        Found::Lib(call) => Ok(Called::Runs(call)),
-        Found::Abstract => Ok(raise(frames, count, Thrown::AbstractMethodError)),
-        Found::Missing => Ok(raise(frames, count, Thrown::AbstractMethodError)),
+        Selection::Method(callee) => enter(frames, count, callee, room),
+        Selection::Lib(call) => Ok(Called::Runs(call)),
+        Selection::Abstract => Ok(raise(frames, count, Thrown::AbstractMethodError)),
+        Selection::Missing => Ok(raise(frames, count, Thrown::AbstractMethodError)),
     }
 }
 
@@ -127,7 +127,7 @@ fn reach<M: Copy>(
 pub fn call_static<M: Copy>(
     frames: &mut Frames<M>,
     count: usize,
-    what: Found<M>,
+    what: Selection<M>,
     room: Room,
 ) -> Result<Called, AllocError>
     requires few { count ≤ length frames.old.newest.operands }
@@ -142,12 +142,12 @@ pub fn call_static<M: Copy>(
 /// A call on an object (JVMS 6.5: invokevirtual, invokespecial), with so many operands, of which the oldest is the object. Null fails
 /// before all else.
 #[inline]
-#[tactic(auto, using(crate::proofs::JcallsProofs::Standing::raised_thrown, crate::proofs::JcallsProofs::Standing::raised_stands))]
+#[tactic(auto, using(crate::proofs::JcallsProofs::FrameStability::raised_thrown, crate::proofs::JcallsProofs::FrameStability::raised_stands))]
 pub fn call_on<M: Copy>(
     frames: &mut Frames<M>,
     receiver: Receiver,
     count: usize,
-    what: Found<M>,
+    what: Selection<M>,
     room: Room,
 ) -> Result<Called, AllocError>
     requires few { count ≤ length frames.old.newest.operands }
@@ -167,12 +167,12 @@ pub fn call_on<M: Copy>(
 /// A call by an interface (JVMS 6.5: invokeinterface), as one on an object, whose class is to have the interface. What is selected is to
 /// be public.
 #[inline]
-#[tactic(auto, using(crate::proofs::JcallsProofs::Standing::raised_thrown, crate::proofs::JcallsProofs::Standing::raised_stands))]
+#[tactic(auto, using(crate::proofs::JcallsProofs::FrameStability::raised_thrown, crate::proofs::JcallsProofs::FrameStability::raised_stands))]
 pub fn call_by_interface<M: Copy>(
     frames: &mut Frames<M>,
     receiver: Receiver,
     count: usize,
-    what: Found<M>,
+    what: Selection<M>,
     has: bool,
     hidden: bool,
     room: Room,

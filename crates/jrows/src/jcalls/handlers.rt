@@ -1,7 +1,7 @@
 ghost use Rattle.std.specs.Prelude.{◌≡◌, ℕ, Option};
-ghost use Rattle.jprogram.specs.declared.member.MethodId.{MethodId};
+ghost use Rattle.jresolution.specs.declared.jprogram.member.MethodId.{MethodId};
 
-use jprogram::MethodId;
+use jresolution::jprogram::MethodId;
 
 /// Where methods go on that handle something that is thrown.
 pub trait Handlers {

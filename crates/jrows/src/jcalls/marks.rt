@@ -1,8 +1,8 @@
 ghost use Rattle.std.specs.Prelude.{◌≡◌, ◌<◌, Some, length, option_map, slice_get};
-ghost use Rattle.jmodel.specs.jmachine.Frames.{carrying};
-ghost use Rattle.jmodel.specs.jstate.Framed.{with_newest};
+ghost use Rattle.jsemantics.specs.jmachine.FrameOperations.{carrying};
+ghost use Rattle.jruntime.specs.jstate.FrameLists.{with_newest};
 
-use jmodel::jstate::Frames;
+use jruntime::jstate::Frames;
 
 /// The newest frame carries what those of its class do. `marks` has that of each class.
 #[inline]

@@ -1,17 +1,17 @@
 ghost use Rattle.std.specs.Prelude.{◌≡◌, IfOk, OnOk, length};
 ghost use Rattle.jlib.specs.declared.classes.LibClass.TheVariants as lib;
-ghost use Rattle.jmodel.specs.jstate.Celled.{StayCelled};
-ghost use Rattle.jmodel.specs.jstate.Framed.{all};
-ghost use Rattle.jmodel.specs.jstate.Numbers.{thrown_number};
-ghost use Rattle.jmodel.specs.jstate.Seen.{AreBuilt};
-ghost use Rattle.jrows.specs.jcalls.Marks.{Stand};
+ghost use Rattle.jruntime.specs.jstate.ObjectCells.{StayCelled};
+ghost use Rattle.jruntime.specs.jstate.FrameLists.{all};
+ghost use Rattle.jruntime.specs.jstate.ClassNumbers.{thrown_number};
+ghost use Rattle.jruntime.specs.jstate.HeapMeanings.{AreBuilt};
+ghost use Rattle.jrows.specs.jcalls.FrameMarks.{Stand};
 ghost use Rattle.jrows.specs.jcalls.Throws.{LeavesStanding, RaisedHeap, Raises, Throws};
 
 use crate::jcalls::handlers::Handlers;
 use crate::jcalls::unwinding::unwind;
-use jheap::{Heap, Kind};
 use jlib::Thrown;
-use jmodel::jstate::{Frames, built_laws, celled_laws, heap_laws, number_laws};
+use jmemory::jheap::{Heap, Kind};
+use jruntime::jstate::{Frames, built_laws, celled_laws, heap_laws, number_laws};
 use std::alloc::{AllocError, Global};
 
 /// What raising or throwing came to.
@@ -26,7 +26,7 @@ pub enum Raised {
 }
 
 /// Throws the object of a number (JVMS 2.10). `handlers` say where frames go on that handle its type.
-#[tactic(auto, using(crate::proofs::JcallsProofs::Throwing::handled_so, crate::proofs::JcallsProofs::Throwing::uncaught_so))]
+#[tactic(auto, using(crate::proofs::JcallsProofs::ThrownExceptions::handled_so, crate::proofs::JcallsProofs::ThrownExceptions::uncaught_so))]
 pub fn throw_object<M: Copy, H: Handlers>(
     frames: &mut Frames<M>,
     object: u32,
@@ -46,7 +46,7 @@ pub fn throw_object<M: Copy, H: Handlers>(
 
 /// Raises an exception of a class of the library, without a message: makes an object of the class, by the heap's number for it, and throws
 /// it. `handlers` say where frames go on that handle its type.
-#[tactic(auto, using(crate::proofs::JcallsProofs::Standing::same_stands))]
+#[tactic(auto, using(crate::proofs::JcallsProofs::FrameStability::same_stands))]
 pub fn raise<M: Copy, H: Handlers>(
     alloc: Global,
     frames: &mut Frames<M>,

@@ -1,16 +1,16 @@
 ghost use Rattle.std.specs.Prelude.{◌≡◌, is_some, true};
-ghost use Rattle.jheap.specs.Heaps.{cells_at, object_at};
-ghost use Rattle.jprogram.specs.declared.part.ClassRef.TheVariants as refs;
-ghost use Rattle.jmodel.specs.jstate.Numbers;
-ghost use Rattle.jmodel.specs.jstate.Seen.{Things, first, number_in};
+ghost use Rattle.jmemory.specs.jheap.Heaps.{cells_at, object_at};
+ghost use Rattle.jresolution.specs.declared.jprogram.part.ClassRef.TheVariants as refs;
+ghost use Rattle.jruntime.specs.jstate.ClassNumbers;
+ghost use Rattle.jruntime.specs.jstate.HeapMeanings.{Things, first, number_in};
 ghost use Rattle.jrows.specs.jcalls.Readiness;
 ghost use Rattle.jrows.specs.jcalls.Readiness.{AreCounted, holds_counted, needed, ready_by, ready_counted};
 
-use jground::jops::Value;
-use jheap::{CellType, Heap, Kind};
 use jlib::LibClass;
-use jmodel::jstate::class_numbered;
-use jprogram::ClassRef;
+use jmemory::jheap::{CellType, Heap, Kind};
+use jresolution::jprogram::ClassRef;
+use jruntime::jstate::class_numbered;
+use jvalues::jops::Value;
 
 /// What an object has to hold before it may be used.
 #[derive(Clone, Copy, Debug, PartialEq, Eq)]
@@ -50,7 +50,7 @@ fn library_needs(class: LibClass) -> Needs
 /// What an object of a class has to hold.
 #[inline(always)]
 pub fn needs_of(class: u32) -> Needs
-    ensures { result ≡ needed (Numbers.class_numbered class) }
+    ensures { result ≡ needed (ClassNumbers.class_numbered class) }
 {
     match class_numbered(class) {
         ClassRef::User(_) => Needs::Nothing,
@@ -60,7 +60,7 @@ pub fn needs_of(class: u32) -> Needs
 
 /// Whether a number is that of one of so many things, which count from 1.
 #[inline]
-#[tactic(auto, using(crate::proofs::JcallsProofs::Readying::zero_outside, crate::proofs::JcallsProofs::Readying::number_within))]
+#[tactic(auto, using(crate::proofs::JcallsProofs::ReadyObjects::zero_outside, crate::proofs::JcallsProofs::ReadyObjects::number_within))]
 fn is_within(count: usize, n: u64) -> bool
     ensures { result ≡ Readiness.is_within count n }
 {
@@ -72,7 +72,7 @@ fn is_within(count: usize, n: u64) -> bool
 
 /// Whether a number is that of something, and not 0 for nothing.
 #[inline]
-#[tactic(auto, using(crate::proofs::JcallsProofs::Readying::no_thread, crate::proofs::JcallsProofs::Readying::a_thread))]
+#[tactic(auto, using(crate::proofs::JcallsProofs::ReadyObjects::no_thread, crate::proofs::JcallsProofs::ReadyObjects::a_thread))]
 fn is_number(n: u64) -> bool
     ensures { result ≡ is_some (number_in n) }
 {
@@ -101,7 +101,7 @@ pub fn first_cell(heap: &Heap, o: u32) -> u64
 
 /// Whether an object holds what its class needs.
 #[inline(always)]
-#[tactic(auto, using(crate::proofs::JcallsProofs::Readying::holds_permission, crate::proofs::JcallsProofs::Readying::holds_context, crate::proofs::JcallsProofs::Readying::holds_thread))]
+#[tactic(auto, using(crate::proofs::JcallsProofs::ReadyObjects::holds_permission, crate::proofs::JcallsProofs::ReadyObjects::holds_context, crate::proofs::JcallsProofs::ReadyObjects::holds_thread))]
 fn holds(heap: &Heap, o: u32, needs: Needs, counts: Counts) -> bool
     requires { is_some (object_at heap.now o) ≡ true }
     ensures counted { result ≡ holds_counted counts (cells_at heap.now o) needs }
@@ -133,7 +133,7 @@ pub fn is_ready(heap: &Heap, o: u32, kind: Kind, counts: Counts) -> bool
 
 /// Whether a value is null or names an object that may be used.
 #[inline]
-#[tactic(auto, using(crate::proofs::JcallsProofs::Readying::none_ready, crate::proofs::JcallsProofs::Readying::object_there, crate::proofs::JcallsProofs::Readying::object_ready))]
+#[tactic(auto, using(crate::proofs::JcallsProofs::ReadyObjects::none_ready, crate::proofs::JcallsProofs::ReadyObjects::object_there, crate::proofs::JcallsProofs::ReadyObjects::object_ready))]
 pub(crate) fn is_reference(heap: &Heap, value: Value, counts: Counts) -> bool
     ensures { (things : Things) → AreCounted counts things → result ≡ Readiness.is_reference things heap.now value }
 {

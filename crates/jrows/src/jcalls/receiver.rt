@@ -1,10 +1,10 @@
 ghost use Rattle.std.specs.Prelude.{◌≡◌, ◌≤◌, length, take};
-ghost use Rattle.jmodel.specs.jmachine.Calls;
-ghost use Rattle.jrows.specs.jcalls.Calling.{receiver_seen};
+ghost use Rattle.jsemantics.specs.jmachine.CallTargets;
+ghost use Rattle.jrows.specs.jcalls.MethodCalls.{receiver_seen};
 
-use jground::jops::Value;
-use jheap::{Heap, Kind};
-use jmodel::jstate::Frames;
+use jmemory::jheap::{Heap, Kind};
+use jruntime::jstate::Frames;
+use jvalues::jops::Value;
 
 /// The object on which a method is called.
 #[derive(Clone, Copy, Debug, PartialEq, Eq)]
@@ -42,7 +42,7 @@ fn received(heap: &Heap, value: Value) -> Receiver
 #[tactic(auto, using(crate::proofs::JcallsProofs::Outcomes::none_oldest, crate::proofs::JcallsProofs::Outcomes::oldest_is))]
 pub fn receiver_at<M: Copy>(frames: &Frames<M>, heap: &Heap, count: usize) -> Receiver
     requires { count ≤ length frames.now.newest.operands }
-    ensures { result ≡ receiver_seen heap.now (Calls.receiver (take count frames.now.newest.operands)) }
+    ensures { result ≡ receiver_seen heap.now (CallTargets.receiver (take count frames.now.newest.operands)) }
 {
     if count == 0 {
         return Receiver::Missing;

@@ -1,18 +1,18 @@
 ghost use Rattle.std.specs.Prelude.{◌≡◌, ◌<◌, ◌+◌, ◌++◌, ◌^◌, IfOk, OnOk, Some, length};
 ghost use Rattle.std.specs.Option.{option_to_list};
-ghost use Rattle.jground.specs.declared.jnames.kinds.Kinds.TheVariants as many;
+ghost use Rattle.jvalues.specs.declared.jnames.kinds.Kinds.TheVariants as many;
 ghost use Rattle.jparts.specs.declared.jcode.names.Returned.{Returned};
 ghost use Rattle.jparts.specs.declared.jcode.names.Returned.TheVariants as kinds;
-ghost use Rattle.jparts.specs.jcode.Forms.{returned};
-ghost use Rattle.jrows.specs.jcalls.Marks.{Stand, resumed_by};
+ghost use Rattle.jparts.specs.jcode.InstructionForms.{returned};
+ghost use Rattle.jrows.specs.jcalls.FrameMarks.{Stand, resumed_by};
 ghost use Rattle.jrows.specs.jcalls.Returns.{IsNumber, Leaves, Returns, ReturnsRef, StaysStanding};
 
 use crate::jcalls::marks::unmark;
 use crate::jcalls::ready::{Counts, is_reference};
-use jground::jnames::Kind;
-use jground::jops::Value;
-use jheap::Heap;
-use jmodel::jstate::{Frames, heap_laws};
+use jmemory::jheap::Heap;
+use jruntime::jstate::{Frames, heap_laws};
+use jvalues::jnames::Kind;
+use jvalues::jops::Value;
 use std::alloc::AllocError;
 
 /// What a return came to.
@@ -64,7 +64,7 @@ fn resume<M: Copy>(
 
 /// The newest frame goes, and the one below goes on behind its call.
 #[inline]
-#[tactic(auto, using(crate::proofs::JcallsProofs::Returning::ended_so, crate::proofs::JcallsProofs::Standing::last_stands, crate::proofs::JcallsProofs::Standing::resumed_stands))]
+#[tactic(auto, using(crate::proofs::JcallsProofs::MethodReturns::ended_so, crate::proofs::JcallsProofs::FrameStability::last_stands, crate::proofs::JcallsProofs::FrameStability::resumed_stands))]
 fn leave<M: Copy>(
     frames: &mut Frames<M>,
     marks: &[M],
@@ -94,7 +94,7 @@ pub fn return_nothing<M: Copy>(frames: &mut Frames<M>, marks: &[M]) -> Result<Le
 
 /// A return of a number of a kind.
 #[inline]
-#[tactic(auto, using(crate::proofs::JcallsProofs::Returning::number_short, crate::proofs::JcallsProofs::Returning::number_other))]
+#[tactic(auto, using(crate::proofs::JcallsProofs::MethodReturns::number_short, crate::proofs::JcallsProofs::MethodReturns::number_other))]
 fn return_number<M: Copy>(
     frames: &mut Frames<M>,
     marks: &[M],
@@ -137,7 +137,7 @@ pub fn return_long<M: Copy>(frames: &mut Frames<M>, marks: &[M]) -> Result<Leavi
 
 /// A return of a reference (JVMS 6.5: areturn), as one of nothing: to an object of a heap that may be used, or null.
 #[inline]
-#[tactic(auto, using(crate::proofs::JcallsProofs::Returning::reference_short))]
+#[tactic(auto, using(crate::proofs::JcallsProofs::MethodReturns::reference_short))]
 pub fn return_ref<M: Copy>(
     frames: &mut Frames<M>,
     marks: &[M],

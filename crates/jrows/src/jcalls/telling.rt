@@ -1,20 +1,20 @@
 ghost use Rattle.std.specs.Prelude.{◌≡◌, ◌≤◌, ◌+◌, ℕ, IfOk, OnOk, length, nat_le};
 ghost use Rattle.jlib.specs.declared.classes.LibClass.{LibClass as Class};
-ghost use Rattle.jmodel.specs.jstate.Celled.{StayCelled};
-ghost use Rattle.jmodel.specs.jstate.Framed.{all};
-ghost use Rattle.jmodel.specs.jstate.Numbers.{library_number};
-ghost use Rattle.jmodel.specs.jstate.Seen.{AreBuilt};
-ghost use Rattle.jrows.specs.jcalls.Marks.{Stand};
-ghost use Rattle.jrows.specs.jcalls.Telling.{HoldsMessage, MakesThrown, MakesTold, RaisesWith, TellsHeap, told_cells};
+ghost use Rattle.jruntime.specs.jstate.ObjectCells.{StayCelled};
+ghost use Rattle.jruntime.specs.jstate.FrameLists.{all};
+ghost use Rattle.jruntime.specs.jstate.ClassNumbers.{library_number};
+ghost use Rattle.jruntime.specs.jstate.HeapMeanings.{AreBuilt};
+ghost use Rattle.jrows.specs.jcalls.FrameMarks.{Stand};
+ghost use Rattle.jrows.specs.jcalls.MessageThrows.{HoldsMessage, MakesThrown, MakesTold, RaisesWith, TellsHeap, told_cells};
 ghost use Rattle.jrows.specs.jcalls.Throws.{LeavesStanding};
 
 use crate::jcalls::handlers::Handlers;
 use crate::jcalls::raising::{Raised, throw_object};
 use crate::jtexts::make_text;
-use jground::jops::Value;
-use jheap::{Heap, Kind};
 use jlib::LibClass;
-use jmodel::jstate::{Frames, built_laws, celled_laws, heap_laws, number_laws};
+use jmemory::jheap::{Heap, Kind};
+use jruntime::jstate::{Frames, built_laws, celled_laws, heap_laws, number_laws};
+use jvalues::jops::Value;
 use std::alloc::{AllocError, Global};
 
 /// Makes an exception of the class of the heap's number, whose message is an object. The cells for it are left.
@@ -71,7 +71,7 @@ fn make_told(
 
 /// Raises an exception of a class of the library with a message of these units: makes the message and an object of the class, by the heap's
 /// number for it, and throws it. `handlers` say where frames go on that handle its type.
-#[tactic(auto, using(crate::proofs::JcallsProofs::Standing::same_stands))]
+#[tactic(auto, using(crate::proofs::JcallsProofs::FrameStability::same_stands))]
 pub fn raise_with<M: Copy, H: Handlers>(
     alloc: Global,
     frames: &mut Frames<M>,

@@ -1,14 +1,14 @@
 ghost use Rattle.std.specs.Prelude.{◌≡◌, ◌<◌, ◌∷◌, [], ℕ, IfOk, OnOk, Some, length};
-ghost use Rattle.jground.specs.declared.jops.value.Value.TheVariants as values;
-ghost use Rattle.jmodel.specs.jstate.Framed.{all};
-ghost use Rattle.jrows.specs.jcalls.Marks.{Stand, resumed_by};
+ghost use Rattle.jvalues.specs.declared.jops.value.Value.TheVariants as values;
+ghost use Rattle.jruntime.specs.jstate.FrameLists.{all};
+ghost use Rattle.jrows.specs.jcalls.FrameMarks.{Stand, resumed_by};
 ghost use Rattle.jrows.specs.jcalls.Throws.{LeavesStanding};
 ghost use Rattle.jrows.specs.jcalls.Unwinds.{Settles, Unwinds};
 
 use crate::jcalls::handlers::Handlers;
 use crate::jcalls::marks::unmark;
-use jground::jops::Value;
-use jmodel::jstate::Frames;
+use jruntime::jstate::Frames;
+use jvalues::jops::Value;
 use std::alloc::AllocError;
 
 /// Frames go until the newest handles what is thrown: the answer is where it goes on. None is answered where no frame does.

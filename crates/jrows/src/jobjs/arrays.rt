@@ -1,19 +1,19 @@
 ghost use Rattle.std.specs.Prelude.{◌≡◌, ◌<◌, ◌+◌, ◌^◌, [], ℕ, List, IfOk, OnOk};
-ghost use Rattle.jprogram.specs.Classes.{Program};
+ghost use Rattle.jresolution.specs.jprogram.ProgramClasses.{Program};
 ghost use Rattle.jtypes.specs.declared.vtype.VType.TheVariants as types;
-ghost use Rattle.jmeaning.specs.juses.Instructions as instructions;
-ghost use Rattle.jmeaning.specs.juses.Meanings as meanings;
-ghost use Rattle.jmeaning.specs.juses.Types.{array_named};
-ghost use Rattle.jmodel.specs.jstate.Celled.{StayCelled};
-ghost use Rattle.jmodel.specs.jstate.Seen.{AreBuilt, Things, array_at as shape_at, store_by};
-ghost use Rattle.jmodel.specs.declared.jstate.shapes.Shapes.{Shapes};
-ghost use Rattle.jrows.specs.jacts.Ways.{Acts, Rests, leaves};
-ghost use Rattle.jrows.specs.jobjs.Staying.{Stays};
+ghost use Rattle.jresolution.specs.juses.IndexedInstructions as instructions;
+ghost use Rattle.jresolution.specs.juses.InstructionMeanings as meanings;
+ghost use Rattle.jresolution.specs.juses.InternedTypes.{array_named};
+ghost use Rattle.jruntime.specs.jstate.ObjectCells.{StayCelled};
+ghost use Rattle.jruntime.specs.jstate.HeapMeanings.{AreBuilt, Things, array_at as shape_at, store_by};
+ghost use Rattle.jruntime.specs.declared.jstate.shapes.Shapes.{Shapes};
+ghost use Rattle.jrows.specs.jacts.RowOutcomes.{Acts, Rests, leaves};
+ghost use Rattle.jrows.specs.jobjs.RowFrames.{Stays};
 
 use crate::jacts::{Way, count_of, make_array, switch_key};
-use jheap::Heap;
 use jlib::{LibClass, Thrown};
-use jmodel::jstate::{Frames, built_laws, celled_laws, heap_laws};
+use jmemory::jheap::Heap;
+use jruntime::jstate::{Frames, built_laws, celled_laws, heap_laws};
 use std::alloc::{AllocError, Global};
 
 /// A new array of references (JVMS 6.5: anewarray), of the heap's number for its type: of so many items as an operand says, each null.

@@ -1,17 +1,17 @@
 ghost use Rattle.std.specs.Prelude.{◌≡◌, ◌<◌, ◌+◌, ◌^◌, ◌∷◌, [], ℕ, Some, Bool, slice_get};
-ghost use Rattle.jmodel.specs.jmachine.Sites.{Site};
-ghost use Rattle.jmodel.specs.jmachine.Store.{Store};
-ghost use Rattle.jmodel.specs.ProofNames;
-ghost use Rattle.jground.specs.declared.jops.value.Value.TheVariants as values;
-ghost use Rattle.jprogram.specs.declared.member.Member.{Member};
-ghost use Rattle.jmeaning.specs.juses.Instructions as instructions;
-ghost use Rattle.jrows.specs.jacts.Ways.{ActsWhere, Rests, leaves};
-ghost use Rattle.jrows.specs.jobjs.Branching.{ServeTest, null_test, ref_in, same_test};
-ghost use Rattle.jrows.specs.jobjs.Staying.{Stays};
+ghost use Rattle.jsemantics.specs.jmachine.InstructionSites.{Site};
+ghost use Rattle.jsemantics.specs.jmachine.Store.{Store};
+ghost use Rattle.jsemantics.specs.ProofNames;
+ghost use Rattle.jvalues.specs.declared.jops.value.Value.TheVariants as values;
+ghost use Rattle.jresolution.specs.declared.jprogram.member.Member.{Member};
+ghost use Rattle.jresolution.specs.juses.IndexedInstructions as instructions;
+ghost use Rattle.jrows.specs.jacts.RowOutcomes.{ActsWhere, Rests, leaves};
+ghost use Rattle.jrows.specs.jobjs.ReferenceBranches.{ServeTest, null_test, ref_in, same_test};
+ghost use Rattle.jrows.specs.jobjs.RowFrames.{Stays};
 
 use crate::jacts::{Way, branch, way_laws};
-use jground::jops::Value;
-use jmodel::jstate::Frames;
+use jruntime::jstate::Frames;
+use jvalues::jops::Value;
 
 /// The number of the reference that stands at a place among the newest frame's operands, counted from the newest.
 #[inline]

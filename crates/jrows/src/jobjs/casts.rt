@@ -1,21 +1,21 @@
 ghost use Rattle.std.specs.Prelude.{◌≡◌, ◌<◌, ◌+◌, ◌^◌, [], ℕ, Bool, slice_get};
 ghost use Rattle.jparts.specs.declared.jcode.names.CastOp.TheVariants as ops;
-ghost use Rattle.jmodel.specs.jmachine.Sites.{Site};
-ghost use Rattle.jmodel.specs.jmachine.Store.{Store};
-ghost use Rattle.jground.specs.declared.jops.value.Value.TheVariants as values;
-ghost use Rattle.jprogram.specs.declared.member.Member.{Member};
+ghost use Rattle.jsemantics.specs.jmachine.InstructionSites.{Site};
+ghost use Rattle.jsemantics.specs.jmachine.Store.{Store};
+ghost use Rattle.jvalues.specs.declared.jops.value.Value.TheVariants as values;
+ghost use Rattle.jresolution.specs.declared.jprogram.member.Member.{Member};
 ghost use Rattle.jtypes.specs.declared.vtype.VType.{VType};
-ghost use Rattle.jmeaning.specs.juses.Instructions as instructions;
-ghost use Rattle.jmeaning.specs.juses.Meanings as meanings;
-ghost use Rattle.jrows.specs.jacts.Ways.{ActsWhere, Rests, leaves};
-ghost use Rattle.jrows.specs.jobjs.Serving.{IsOne, Serve, bit, named_seen};
-ghost use Rattle.jrows.specs.jobjs.Staying.{Stays};
+ghost use Rattle.jresolution.specs.juses.IndexedInstructions as instructions;
+ghost use Rattle.jresolution.specs.juses.InstructionMeanings as meanings;
+ghost use Rattle.jrows.specs.jacts.RowOutcomes.{ActsWhere, Rests, leaves};
+ghost use Rattle.jrows.specs.jobjs.EntryOperands.{IsOne, Serve, bit, named_seen};
+ghost use Rattle.jrows.specs.jobjs.RowFrames.{Stays};
 
 use crate::jacts::{Way, way_laws};
 use crate::jobjs::fields::give_one;
-use jground::jops::Value;
 use jlib::{LibClass, Thrown};
-use jmodel::jstate::Frames;
+use jruntime::jstate::Frames;
+use jvalues::jops::Value;
 
 /// What the newest operand names.
 #[derive(Clone, Copy)]

@@ -1,35 +1,35 @@
 ghost use Rattle.std.specs.Prelude.{◌≡◌, ◌<◌, ◌+◌, ◌^◌, ◌∷◌, [], ℕ, List, Bool, IfOk, OnOk, MatchOption, Some, length, option_map, slice_get};
-ghost use Rattle.jheap.specs.declared.cell.Kind.TheVariants as kinds;
-ghost use Rattle.jmodel.specs.jmachine.Frames.{onward};
-ghost use Rattle.jmodel.specs.jmachine.Sites.{Site};
-ghost use Rattle.jground.specs.declared.jops.value.Value.TheVariants as values;
-ghost use Rattle.jprogram.specs.Classes.{Program};
-ghost use Rattle.jprogram.specs.declared.member.Member.{Member};
-ghost use Rattle.jprogram.specs.declared.part.ClassRef.TheVariants as refs;
+ghost use Rattle.jmemory.specs.declared.jheap.cell.Kind.TheVariants as kinds;
+ghost use Rattle.jsemantics.specs.jmachine.FrameOperations.{onward};
+ghost use Rattle.jsemantics.specs.jmachine.InstructionSites.{Site};
+ghost use Rattle.jvalues.specs.declared.jops.value.Value.TheVariants as values;
+ghost use Rattle.jresolution.specs.jprogram.ProgramClasses.{Program};
+ghost use Rattle.jresolution.specs.declared.jprogram.member.Member.{Member};
+ghost use Rattle.jresolution.specs.declared.jprogram.part.ClassRef.TheVariants as refs;
 ghost use Rattle.jtypes.specs.declared.vtype.Name.{Name};
-ghost use Rattle.jmeaning.specs.juses.Instructions as instructions;
-ghost use Rattle.jmeaning.specs.juses.Meanings as meanings;
-ghost use Rattle.jmodel.specs.jstate.Celled;
-ghost use Rattle.jmodel.specs.jstate.Celled.{AreCelled, StayCelled};
-ghost use Rattle.jmodel.specs.jstate.Framed.{with_newest};
-ghost use Rattle.jmodel.specs.jstate.Numbers.{library_count};
-ghost use Rattle.jmodel.specs.jstate.Seen.{AreBuilt, Things, store_by};
-ghost use Rattle.jmodel.specs.declared.jstate.shapes.Shapes.{Shapes as ShapesOf};
-ghost use Rattle.jrows.specs.jacts.Ways.{ActsWhere, Rests, leaves};
+ghost use Rattle.jresolution.specs.juses.IndexedInstructions as instructions;
+ghost use Rattle.jresolution.specs.juses.InstructionMeanings as meanings;
+ghost use Rattle.jruntime.specs.jstate.ObjectCells;
+ghost use Rattle.jruntime.specs.jstate.ObjectCells.{AreCelled, StayCelled};
+ghost use Rattle.jruntime.specs.jstate.FrameLists.{with_newest};
+ghost use Rattle.jruntime.specs.jstate.ClassNumbers.{library_count};
+ghost use Rattle.jruntime.specs.jstate.HeapMeanings.{AreBuilt, Things, store_by};
+ghost use Rattle.jruntime.specs.declared.jstate.shapes.Shapes.{Shapes as ShapesOf};
+ghost use Rattle.jrows.specs.jacts.RowOutcomes.{ActsWhere, Rests, leaves};
 ghost use Rattle.jrows.specs.declared.jacts.way.Way.TheVariants as ways;
-ghost use Rattle.jrows.specs.jobjs.Made.{HasNew, HasShape};
-ghost use Rattle.jmodel.specs.declared.jstate.shapes.Shape.{Shape as ShapeOf};
-ghost use Rattle.jrows.specs.jobjs.Staying.{Stays};
+ghost use Rattle.jrows.specs.jobjs.NewObjects.{HasNew, HasShape};
+ghost use Rattle.jruntime.specs.declared.jstate.shapes.Shape.{Shape as ShapeOf};
+ghost use Rattle.jrows.specs.jobjs.RowFrames.{Stays};
 
 use crate::jacts::Way;
 use crate::jobjs::fields::push_one;
-use jground::jops::Value;
-use jheap::{Heap, Kind};
 use jlib::{LIBRARY_CLASSES, LibClass};
-use jmodel::jstate::{
+use jmemory::jheap::{Heap, Kind};
+use jruntime::jstate::{
     Frames, Shape, Shapes, built_laws, celled_laws, cells_of, heap_laws, library_number,
     number_laws,
 };
+use jvalues::jops::Value;
 use std::alloc::{AllocError, Global};
 
 /// The reference of what was made is one more operand; where there were too few cells nothing changes.
@@ -91,7 +91,7 @@ pub fn new_library<M: Copy>(
 #[inline]
 fn cells_in(shape: &Shape) -> u32
     requires { length shape.now.cells + 1 < 2 ^ 32 }
-    ensures { result ≡ Celled.cells_in shape.now }
+    ensures { result ≡ ObjectCells.cells_in shape.now }
 {
     let cells = shape.cells.as_slice().len() as u32;
     if shape.message {
@@ -104,7 +104,7 @@ fn cells_in(shape: &Shape) -> u32
 #[inline]
 fn count_at(shapes: &Shapes, class: u32) -> Option<u32>
     requires { (shape : ShapeOf) → slice_get shapes.now.users class ≡ Some shape → length shape.cells + 1 < 2 ^ 32 }
-    ensures { result ≡ option_map Celled.cells_in (slice_get shapes.now.users class) }
+    ensures { result ≡ option_map ObjectCells.cells_in (slice_get shapes.now.users class) }
 {
     match shapes.users.as_slice().get(class as usize) {
         None => None,

@@ -1,25 +1,25 @@
 ghost use Rattle.std.specs.Prelude.{◌≡◌, ◌<◌, ◌≤◌, ◌+◌, ◌^◌, [], ℕ, List, Bool, is_some, length, slice_get, true};
 ghost use Rattle.jparts.specs.declared.jcode.names.Element.TheVariants as items;
-ghost use Rattle.jparts.specs.declared.jcode.form.ArrayForm.TheVariants as forms;
-ghost use Rattle.jheap.specs.Heaps.{cells_at, object_at};
-ghost use Rattle.jmodel.specs.jmachine.Arrays as rows;
-ghost use Rattle.jmodel.specs.jmachine.Narrowing.{place as place_of};
-ghost use Rattle.jmodel.specs.jmachine.Sites.{Site};
-ghost use Rattle.jprogram.specs.Classes.{Program};
-ghost use Rattle.jprogram.specs.declared.member.Member.{Member};
-ghost use Rattle.jmeaning.specs.juses.Instructions as instructions;
-ghost use Rattle.jmodel.specs.jstate.Celled.{StayCelled};
-ghost use Rattle.jmodel.specs.jstate.Seen.{AreBuilt, Things, store_by};
-ghost use Rattle.jmodel.specs.declared.jstate.shapes.Shapes.{Shapes};
-ghost use Rattle.jrows.specs.jacts.Ways.{ActsWhere, Rests, leaves};
-ghost use Rattle.jrows.specs.jobjs.Stored.{HasStored, MayStore, ServeStore, held_seen};
-ghost use Rattle.jrows.specs.jobjs.Staying.{Stays};
+ghost use Rattle.jparts.specs.declared.jcode.op_form.ArrayForm.TheVariants as forms;
+ghost use Rattle.jmemory.specs.jheap.Heaps.{cells_at, object_at};
+ghost use Rattle.jsemantics.specs.jmachine.ArrayInstructions as rows;
+ghost use Rattle.jsemantics.specs.jmachine.Narrowing.{place as place_of};
+ghost use Rattle.jsemantics.specs.jmachine.InstructionSites.{Site};
+ghost use Rattle.jresolution.specs.jprogram.ProgramClasses.{Program};
+ghost use Rattle.jresolution.specs.declared.jprogram.member.Member.{Member};
+ghost use Rattle.jresolution.specs.juses.IndexedInstructions as instructions;
+ghost use Rattle.jruntime.specs.jstate.ObjectCells.{StayCelled};
+ghost use Rattle.jruntime.specs.jstate.HeapMeanings.{AreBuilt, Things, store_by};
+ghost use Rattle.jruntime.specs.declared.jstate.shapes.Shapes.{Shapes};
+ghost use Rattle.jrows.specs.jacts.RowOutcomes.{ActsWhere, Rests, leaves};
+ghost use Rattle.jrows.specs.jobjs.StoredReferences.{HasStored, MayStore, ServeStore, held_seen};
+ghost use Rattle.jrows.specs.jobjs.RowFrames.{Stays};
 
 use crate::jacts::{Way, int_at, put_at, way_laws, within};
-use jground::jops::Value;
-use jheap::{Heap, Kind};
 use jlib::{LibClass, Thrown};
-use jmodel::jstate::{Frames, built_laws, celled_laws, heap_laws};
+use jmemory::jheap::{Heap, Kind};
+use jruntime::jstate::{Frames, built_laws, celled_laws, heap_laws};
+use jvalues::jops::Value;
 
 /// What stands below the index of a store.
 #[derive(Clone, Copy)]

@@ -1,9 +1,9 @@
 ghost use Rattle.std.specs.Prelude.{◌≡◌, slice_get};
-ghost use Rattle.jrows.specs.jobjs.Serving.{target_seen};
+ghost use Rattle.jrows.specs.jobjs.EntryOperands.{target_seen};
 
-use jground::jops::Value;
-use jheap::{Heap, Kind};
-use jmodel::jstate::Frames;
+use jmemory::jheap::{Heap, Kind};
+use jruntime::jstate::Frames;
+use jvalues::jops::Value;
 
 /// What an operand is that is wanted to be an object of a class.
 #[derive(Clone, Copy)]

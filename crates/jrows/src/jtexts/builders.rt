@@ -1,27 +1,27 @@
 ghost use Rattle.std.specs.Prelude.{◌≡◌, ◌≤◌, ◌∷◌, [], ℕ, List, IfOk, OnOk, Some, false, length as len, reverse};
-ghost use Rattle.jheap.specs.Heaps.{HasCell, kind_at, with_before, with_cell};
-ghost use Rattle.jheap.specs.declared.cell.Kind.TheVariants as kinds;
-ghost use Rattle.jground.specs.declared.jops.value.Value.{Value as Held};
-ghost use Rattle.jground.specs.declared.jops.value.Value.TheVariants as values;
+ghost use Rattle.jmemory.specs.jheap.Heaps.{HasCell, kind_at, with_before, with_cell};
+ghost use Rattle.jmemory.specs.declared.jheap.cell.Kind.TheVariants as kinds;
+ghost use Rattle.jvalues.specs.declared.jops.value.Value.{Value as Held};
+ghost use Rattle.jvalues.specs.declared.jops.value.Value.TheVariants as values;
 ghost use Rattle.jlib.specs.declared.calls.BuilderCall.TheVariants as calls;
-ghost use Rattle.jprogram.specs.Classes.{Program};
-ghost use Rattle.jmodel.specs.jmachine.Texts.{appended, builder as builder_row};
-ghost use Rattle.jmodel.specs.declared.jstate.shapes.Shapes.{Shapes};
-ghost use Rattle.jmodel.specs.jstate.Celled.{StayCelled};
-ghost use Rattle.jmodel.specs.jstate.Seen.{AreBuilt, Things, built as built_from, store_by};
+ghost use Rattle.jresolution.specs.jprogram.ProgramClasses.{Program};
+ghost use Rattle.jsemantics.specs.jmachine.TextCalls.{appended, builder as builder_row};
+ghost use Rattle.jruntime.specs.declared.jstate.shapes.Shapes.{Shapes};
+ghost use Rattle.jruntime.specs.jstate.ObjectCells.{StayCelled};
+ghost use Rattle.jruntime.specs.jstate.HeapMeanings.{AreBuilt, Things, built as built_from, store_by};
 ghost use Rattle.jrows.specs.jtexts.HeapBuilders.{AreThere, HasLast, behind, builder_number, last_piece, piece_number, without_text};
 ghost use Rattle.jrows.specs.jtexts.HeapTexts.{names_nothing};
-ghost use Rattle.jrows.specs.jtexts.Rans.{Comes, gave, leaves};
+ghost use Rattle.jrows.specs.jtexts.TextCallOutcomes.{Comes, gave, leaves};
 
 use crate::jtexts::making::{put_units, text_made};
 use crate::jtexts::ran::Ran;
 use crate::jtexts::shown::shown;
 use crate::jtexts::texts::{is_null, read_onto, text_of};
 use crate::jtexts::thrown::named_at;
-use jground::jops::Value;
-use jheap::{Heap, Kind};
-use jlib::{LibClass, Piece, Thrown};
-use jmodel::jstate::{celled_laws, heap_laws, library_number, piece_laws};
+use jlib::{LibClass, PrintedType, Thrown};
+use jmemory::jheap::{Heap, Kind};
+use jruntime::jstate::{celled_laws, heap_laws, library_number, piece_laws};
+use jvalues::jops::Value;
 use std::alloc::{AllocError, Global};
 
 /// The number of the builder that a value names, where it names one.
@@ -124,7 +124,7 @@ pub fn append<M>(
     alloc: Global,
     heap: &mut Heap,
     builder: Value,
-    piece: Piece,
+    piece: PrintedType,
     value: Value,
 ) -> Result<Ran, AllocError>
     requires built { AreBuilt heap.old.objects }
@@ -253,7 +253,7 @@ fn pieces_of(alloc: Global, heap: &Heap, last: u32) -> Result<Vec<u32>, AllocErr
     let mut next = piece_at(heap, last);
     while let Some(o) = next {
         pieces.push(o)?;
-        let front = heap.before(o);
+        let front = heap.read_previous(o);
         next = piece_at(heap, front);
     }
     Ok(pieces)

@@ -1,7 +1,7 @@
 ghost use Rattle.jrows.specs.jtexts.HeapBuilders.{LastFollows};
 ghost use Rattle.jrows.specs.jtexts.Messages.{TellFollows, ToldFollows};
 
-use jmodel::jstate::celled_laws;
+use jruntime::jstate::celled_laws;
 
 /// The cells that calls want of objects are there where each object has as many cells as its class wants: a builder's for its last piece,
 /// and those for messages. It has no body to run; its contract is the laws.

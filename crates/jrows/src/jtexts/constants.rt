@@ -1,19 +1,19 @@
 ghost use Rattle.std.specs.Prelude.{◌≡◌, [], ℕ, List, IfOk, None, OnOk};
-ghost use Rattle.jprogram.specs.Classes.{Program};
-ghost use Rattle.jheap.specs.declared.cell.Kind.TheVariants as kinds;
-ghost use Rattle.jmeaning.specs.juses.Meanings as meanings;
-ghost use Rattle.jmodel.specs.jmachine.Making.{push, units_of as units_held};
-ghost use Rattle.jmodel.specs.jmachine.Store.{constant_at};
-ghost use Rattle.jmodel.specs.declared.jstate.shapes.Shapes.{Shapes};
-ghost use Rattle.jmodel.specs.jstate.Celled.{StayCelled};
-ghost use Rattle.jmodel.specs.jstate.Seen.{AreBuilt, Things, store_by};
-ghost use Rattle.jrows.specs.jtexts.Constants.{LoadsKnown, MakesText, constants_with, loaded};
+ghost use Rattle.jresolution.specs.jprogram.ProgramClasses.{Program};
+ghost use Rattle.jmemory.specs.declared.jheap.cell.Kind.TheVariants as kinds;
+ghost use Rattle.jresolution.specs.juses.InstructionMeanings as meanings;
+ghost use Rattle.jsemantics.specs.jmachine.ObjectInstructions.{push, units_of as units_held};
+ghost use Rattle.jsemantics.specs.jmachine.Store.{constant_at};
+ghost use Rattle.jruntime.specs.declared.jstate.shapes.Shapes.{Shapes};
+ghost use Rattle.jruntime.specs.jstate.ObjectCells.{StayCelled};
+ghost use Rattle.jruntime.specs.jstate.HeapMeanings.{AreBuilt, Things, store_by};
+ghost use Rattle.jrows.specs.jtexts.MadeStrings.{LoadsKnown, MakesText, constants_with, loaded};
 ghost use Rattle.jrows.specs.jtexts.HeapTexts.{Puts};
-ghost use Rattle.jrows.specs.jtexts.Rans.{Comes, leaves};
+ghost use Rattle.jrows.specs.jtexts.TextCallOutcomes.{Comes, leaves};
 
 use crate::jtexts::making::put_units;
-use jheap::{Heap, Kind};
-use jmodel::jstate::piece_laws;
+use jmemory::jheap::{Heap, Kind};
+use jruntime::jstate::piece_laws;
 use std::alloc::{AllocError, Global};
 
 /// A new string of these units: its number. None exactly where the cells for it aren't left, and then nothing changes.

@@ -1,17 +1,17 @@
 ghost use Rattle.std.specs.Prelude.{◌≡◌, ◌<◌, ◌^◌, [], ℕ, List, IfOk, OnOk, Some, length as len};
-ghost use Rattle.jheap.specs.Heaps.{cells_at};
-ghost use Rattle.jprogram.specs.Classes.{Program};
-ghost use Rattle.jmodel.specs.jmachine.Making as making;
-ghost use Rattle.jmodel.specs.declared.jstate.shapes.Shapes.{Shapes};
-ghost use Rattle.jmodel.specs.jstate.Celled.{StayCelled};
-ghost use Rattle.jmodel.specs.jstate.Seen.{AreBuilt, Things, store_by};
+ghost use Rattle.jmemory.specs.jheap.Heaps.{cells_at};
+ghost use Rattle.jresolution.specs.jprogram.ProgramClasses.{Program};
+ghost use Rattle.jsemantics.specs.jmachine.ObjectInstructions as making;
+ghost use Rattle.jruntime.specs.declared.jstate.shapes.Shapes.{Shapes};
+ghost use Rattle.jruntime.specs.jstate.ObjectCells.{StayCelled};
+ghost use Rattle.jruntime.specs.jstate.HeapMeanings.{AreBuilt, Things, store_by};
 ghost use Rattle.jrows.specs.jtexts.HeapTexts.{HoldsUnits, Puts, written};
-ghost use Rattle.jrows.specs.jtexts.Rans.{Comes, leaves};
+ghost use Rattle.jrows.specs.jtexts.TextCallOutcomes.{Comes, leaves};
 
 use crate::jtexts::ran::Ran;
-use jground::jops::Value;
-use jheap::{Heap, Kind};
-use jmodel::jstate::{celled_laws, piece_laws};
+use jmemory::jheap::{Heap, Kind};
+use jruntime::jstate::{celled_laws, piece_laws};
+use jvalues::jops::Value;
 use std::alloc::{AllocError, Global};
 
 /// Writes units into the cells of a text or a piece, of which there are as many.

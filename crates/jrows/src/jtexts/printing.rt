@@ -1,25 +1,25 @@
 ghost use Rattle.std.specs.Prelude.{◌≡◌, ◌∷◌, [], ℕ, List, IfOk, Some};
-ghost use Rattle.jground.specs.declared.jops.value.Value.{Value as Held};
-ghost use Rattle.jprogram.specs.Classes.{Program};
-ghost use Rattle.jmodel.specs.jmachine.Store.{Store};
-ghost use Rattle.jmodel.specs.jmachine.Texts.{print as row_of, print_end as end_row};
-ghost use Rattle.jmodel.specs.declared.jstate.shapes.Shapes.{Shapes};
-ghost use Rattle.jmodel.specs.jstate.Seen.{Things, store_by};
-ghost use Rattle.jrows.specs.jtexts.Printed.{Prints};
+ghost use Rattle.jvalues.specs.declared.jops.value.Value.{Value as Held};
+ghost use Rattle.jresolution.specs.jprogram.ProgramClasses.{Program};
+ghost use Rattle.jsemantics.specs.jmachine.Store.{Store};
+ghost use Rattle.jsemantics.specs.jmachine.TextCalls.{print as row_of, print_end as end_row};
+ghost use Rattle.jruntime.specs.declared.jstate.shapes.Shapes.{Shapes};
+ghost use Rattle.jruntime.specs.jstate.HeapMeanings.{Things, store_by};
+ghost use Rattle.jrows.specs.jtexts.PrintEvents.{Prints};
 
 use crate::jtexts::shown::shown;
-use jground::jops::Value;
 use jground::jtext::Units;
-use jheap::Heap;
-use jlib::Piece;
-use jmodel::jstate::heap_laws;
+use jlib::PrintedType;
+use jmemory::jheap::Heap;
+use jruntime::jstate::heap_laws;
+use jvalues::jops::Value;
 use std::alloc::{AllocError, Global};
 
 /// PrintStream's `print` and `println` of a value: the text that is told, which the thread's event holds. None where the state has no step.
 pub fn print<M>(
     alloc: Global,
     heap: &Heap,
-    piece: Piece,
+    piece: PrintedType,
     value: Value,
 ) -> Result<Option<Units>, AllocError>
     ensures { IfOk result (λ text. (p : Program) (shapes : Shapes) (things : Things) (constants : List (List ℕ × ℕ)) (thread : ℕ) (stream : Held ℕ) →

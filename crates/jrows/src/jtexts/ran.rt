@@ -1,7 +1,7 @@
-ghost use Rattle.jrows.specs.jtexts.Rans.{GoesFree};
+ghost use Rattle.jrows.specs.jtexts.TextCallOutcomes.{GoesFree};
 
-use jground::jops::Value;
 use jlib::LibClass;
+use jvalues::jops::Value;
 
 /// What a call of the library came to.
 #[derive(Clone, Copy, Debug, PartialEq, Eq)]

@@ -1,14 +1,14 @@
 ghost use Rattle.std.specs.Prelude.{◌≡◌, ℕ, List, IfOk};
-ghost use Rattle.jprogram.specs.Classes.{Program};
-ghost use Rattle.jmodel.specs.jmachine.Texts.{units as units_of};
-ghost use Rattle.jmodel.specs.declared.jstate.shapes.Shapes.{Shapes};
-ghost use Rattle.jmodel.specs.jstate.Seen.{Things, store_by};
+ghost use Rattle.jresolution.specs.jprogram.ProgramClasses.{Program};
+ghost use Rattle.jsemantics.specs.jmachine.TextCalls.{units as units_of};
+ghost use Rattle.jruntime.specs.declared.jstate.shapes.Shapes.{Shapes};
+ghost use Rattle.jruntime.specs.jstate.HeapMeanings.{Things, store_by};
 
 use crate::jtexts::texts::{read_onto, text_of};
-use jground::jops::Value;
 use jground::jtext::Units;
-use jheap::Heap;
-use jmodel::jstate::heap_laws;
+use jmemory::jheap::Heap;
+use jruntime::jstate::heap_laws;
+use jvalues::jops::Value;
 use std::alloc::{AllocError, Global};
 
 /// The units of the string that a value names. None where it names none, as null does.

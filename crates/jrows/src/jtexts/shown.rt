@@ -2,15 +2,15 @@ ghost use Rattle.std.specs.Prelude.{◌≡◌, ◌∷◌, ◌%◌, ◌^◌, [], 
 ghost use Rattle.std.specs.Fmt.{signed_decimal};
 ghost use Rattle.std.specs.Int.{w32, cast_unsigned};
 ghost use Rattle.std.specs.Ordering.{int_eq};
-ghost use Rattle.jmodel.specs.ProofNames.{zero_text};
-ghost use Rattle.jrows.specs.jtexts.Shown.{int_in, long_in, shown as shown_as, shown_int as int_shown, text_or_null};
+ghost use Rattle.jsemantics.specs.ProofNames.{zero_text};
+ghost use Rattle.jrows.specs.jtexts.PrintedValues.{int_in, long_in, shown as shown_as, shown_int as int_shown, text_or_null};
 
 use crate::jtexts::texts::{is_null, read_onto, text_of};
 use itoa::Buffer;
-use jground::jops::Value;
 use jground::jtext::Units;
-use jheap::Heap;
-use jlib::Piece;
+use jlib::PrintedType;
+use jmemory::jheap::Heap;
+use jvalues::jops::Value;
 use std::alloc::{AllocError, Global};
 
 /// A unit for each byte of a text, with its number: the units of a text of ASCII.
@@ -102,29 +102,29 @@ fn text_shown(alloc: Global, heap: &Heap, value: Value) -> Result<Option<Units>,
 }
 
 /// What an int is printed as, which stands for such a piece.
-fn int_text(alloc: Global, piece: Piece, x: i32) -> Result<Option<Units>, AllocError>
+fn int_text(alloc: Global, piece: PrintedType, x: i32) -> Result<Option<Units>, AllocError>
     ensures { IfOk result (λ units. units ≡ int_shown piece x) }
 {
     match piece {
-        Piece::Int => {
+        PrintedType::Int => {
             let units = decimal_int(alloc, x)?;
             Ok(Some(units))
         }
-        Piece::Char => {
+        PrintedType::Char => {
             let units = char_text(alloc, x)?;
             Ok(Some(units))
         }
-        Piece::Bool => {
+        PrintedType::Bool => {
             let units = flag_text(alloc, x)?;
             Ok(Some(units))
         }
-        Piece::Long => Ok(None),
-        Piece::Text => Ok(None),
+        PrintedType::Long => Ok(None),
+        PrintedType::Text => Ok(None),
     }
 }
 
 /// What a value is printed as where it is an int that stands for such a piece.
-fn value_text(alloc: Global, piece: Piece, value: Value) -> Result<Option<Units>, AllocError>
+fn value_text(alloc: Global, piece: PrintedType, value: Value) -> Result<Option<Units>, AllocError>
     ensures { IfOk result (λ units. units ≡ option_and_then (int_shown piece) (int_in value)) }
 {
     let Some(x) = int_of(value) else {
@@ -148,16 +148,16 @@ fn long_text(alloc: Global, value: Value) -> Result<Option<Units>, AllocError>
 pub(crate) fn shown(
     alloc: Global,
     heap: &Heap,
-    piece: Piece,
+    piece: PrintedType,
     value: Value,
 ) -> Result<Option<Units>, AllocError>
     ensures { IfOk result (λ units. units ≡ shown_as heap.now piece value) }
 {
     match piece {
-        Piece::Text => text_shown(alloc, heap, value),
-        Piece::Long => long_text(alloc, value),
-        Piece::Int => value_text(alloc, Piece::Int, value),
-        Piece::Char => value_text(alloc, Piece::Char, value),
-        Piece::Bool => value_text(alloc, Piece::Bool, value),
+        PrintedType::Text => text_shown(alloc, heap, value),
+        PrintedType::Long => long_text(alloc, value),
+        PrintedType::Int => value_text(alloc, PrintedType::Int, value),
+        PrintedType::Char => value_text(alloc, PrintedType::Char, value),
+        PrintedType::Bool => value_text(alloc, PrintedType::Bool, value),
     }
 }

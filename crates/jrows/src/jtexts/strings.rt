@@ -1,23 +1,23 @@
 ghost use Rattle.std.specs.Prelude.{◌≡◌, ◌<◌, ◌^◌, ◌∷◌, [], ℕ, List, IfOk, OnOk, is_some, length as len, option_and_then, pos, slice_get, true};
 ghost use Rattle.std.specs.Str.{bytes_eq};
-ghost use Rattle.jheap.specs.Heaps.{cells_at, object_at};
-ghost use Rattle.jground.specs.declared.jops.value.Value.TheVariants as values;
+ghost use Rattle.jmemory.specs.jheap.Heaps.{cells_at, object_at};
+ghost use Rattle.jvalues.specs.declared.jops.value.Value.TheVariants as values;
 ghost use Rattle.jlib.specs.declared.calls.StringCall.TheVariants as calls;
-ghost use Rattle.jprogram.specs.Classes.{Program};
-ghost use Rattle.jmodel.specs.jmachine.Narrowing.{place};
-ghost use Rattle.jmodel.specs.jmachine.Texts.{string};
-ghost use Rattle.jmodel.specs.declared.jstate.shapes.Shapes.{Shapes};
-ghost use Rattle.jmodel.specs.jstate.Celled.{StayCelled};
-ghost use Rattle.jmodel.specs.jstate.Seen.{AreBuilt, Things, store_by, units_of};
-ghost use Rattle.jrows.specs.jtexts.Rans.{Comes, flag as flag_value, leaves};
+ghost use Rattle.jresolution.specs.jprogram.ProgramClasses.{Program};
+ghost use Rattle.jsemantics.specs.jmachine.Narrowing.{place};
+ghost use Rattle.jsemantics.specs.jmachine.TextCalls.{string};
+ghost use Rattle.jruntime.specs.declared.jstate.shapes.Shapes.{Shapes};
+ghost use Rattle.jruntime.specs.jstate.ObjectCells.{StayCelled};
+ghost use Rattle.jruntime.specs.jstate.HeapMeanings.{AreBuilt, Things, store_by, units_of};
+ghost use Rattle.jrows.specs.jtexts.TextCallOutcomes.{Comes, flag as flag_value, leaves};
 
 use crate::jtexts::making::text_made;
 use crate::jtexts::ran::Ran;
 use crate::jtexts::texts::{is_null, read_onto, text_of};
-use jground::jops::Value;
-use jheap::Heap;
 use jlib::{LibClass, Thrown};
-use jmodel::jstate::heap_laws;
+use jmemory::jheap::Heap;
+use jruntime::jstate::heap_laws;
+use jvalues::jops::Value;
 use std::alloc::{AllocError, Global};
 
 /// How many units a text has, as an int.

@@ -1,10 +1,10 @@
 ghost use Rattle.std.specs.Prelude.{◌≡◌, ◌++◌, OnOk, is_some, true};
-ghost use Rattle.jheap.specs.Heaps.{cells_at, object_at};
-ghost use Rattle.jmodel.specs.jstate.Seen.{units_of};
+ghost use Rattle.jmemory.specs.jheap.Heaps.{cells_at, object_at};
+ghost use Rattle.jruntime.specs.jstate.HeapMeanings.{units_of};
 ghost use Rattle.jrows.specs.jtexts.HeapTexts.{names_nothing, text_number};
 
-use jground::jops::Value;
-use jheap::{Heap, Kind};
+use jmemory::jheap::{Heap, Kind};
+use jvalues::jops::Value;
 use std::alloc::AllocError;
 
 /// Whether a value is null.

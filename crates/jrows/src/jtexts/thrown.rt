@@ -1,23 +1,23 @@
 ghost use Rattle.std.specs.Prelude.{◌≡◌, ◌<◌, ◌∷◌, [], ℕ, List, drop, is_some, slice_get, true};
-ghost use Rattle.jheap.specs.Heaps.{HasCell, cells_at, object_at, with_cell};
-ghost use Rattle.jprogram.specs.Classes.{Program};
-ghost use Rattle.jmodel.specs.ProofNames.{object_init as init_row};
-ghost use Rattle.jmodel.specs.jmachine.Store.{Store};
+ghost use Rattle.jmemory.specs.jheap.Heaps.{HasCell, cells_at, object_at, with_cell};
+ghost use Rattle.jresolution.specs.jprogram.ProgramClasses.{Program};
+ghost use Rattle.jsemantics.specs.ProofNames.{object_init as init_row};
+ghost use Rattle.jsemantics.specs.jmachine.Store.{Store};
 ghost use Rattle.jlib.specs.declared.calls.ThrownInit.TheVariants as given;
-ghost use Rattle.jmodel.specs.jmachine.Throwables.{init as thrown_init, message as message_row, told as told_row};
-ghost use Rattle.jmodel.specs.jstate.Celled.{StayCelled};
-ghost use Rattle.jmodel.specs.jstate.Numbers;
-ghost use Rattle.jmodel.specs.jstate.Seen.{AreBuilt, Things, first, named_by, store_by};
+ghost use Rattle.jsemantics.specs.jmachine.Throwables.{init as thrown_init, message as message_row, told as told_row};
+ghost use Rattle.jruntime.specs.jstate.ObjectCells.{StayCelled};
+ghost use Rattle.jruntime.specs.jstate.ClassNumbers;
+ghost use Rattle.jruntime.specs.jstate.HeapMeanings.{AreBuilt, Things, first, named_by, store_by};
 ghost use Rattle.jrows.specs.jtexts.Messages;
 ghost use Rattle.jrows.specs.jtexts.Messages.{CanBeTold, CanTell, message_by_shape, message_named, message_place, named_as, place_by, shape_place, told_by};
-ghost use Rattle.jrows.specs.jtexts.Rans.{Comes, leaves};
+ghost use Rattle.jrows.specs.jtexts.TextCallOutcomes.{Comes, leaves};
 
 use crate::jtexts::ran::Ran;
-use jground::jops::Value;
-use jheap::{CellType, Heap, Kind};
 use jlib::LibClass;
-use jmodel::jstate::{Shapes, built_laws, celled_laws, class_numbered, heap_laws};
-use jprogram::ClassRef;
+use jmemory::jheap::{CellType, Heap, Kind};
+use jresolution::jprogram::ClassRef;
+use jruntime::jstate::{Shapes, built_laws, celled_laws, class_numbered, heap_laws};
+use jvalues::jops::Value;
 
 /// The constructor of Object does nothing. `M` is what frames carry, which no call looks at.
 #[inline]
@@ -77,7 +77,7 @@ fn user_message(heap: &Heap, shapes: &Shapes, o: u32, class: usize) -> u32
 #[inline]
 fn class_message(heap: &Heap, shapes: &Shapes, o: u32, class: u32) -> Option<u32>
     requires { is_some (object_at heap.now o) ≡ true }
-    ensures { result ≡ told_by shapes.now (Numbers.class_numbered class) (cells_at heap.now o) }
+    ensures { result ≡ told_by shapes.now (ClassNumbers.class_numbered class) (cells_at heap.now o) }
 {
     match class_numbered(class) {
         ClassRef::User(i) => Some(user_message(heap, shapes, o, i as usize)),
@@ -141,7 +141,7 @@ fn user_place(shapes: &Shapes, class: usize) -> Option<usize>
 /// The place of the message among the cells of an object of a class, by the heap's number for it.
 #[inline]
 fn class_place(shapes: &Shapes, class: u32) -> Option<usize>
-    ensures { result ≡ place_by shapes.now (Numbers.class_numbered class) }
+    ensures { result ≡ place_by shapes.now (ClassNumbers.class_numbered class) }
 {
     match class_numbered(class) {
         ClassRef::User(i) => user_place(shapes, i as usize),

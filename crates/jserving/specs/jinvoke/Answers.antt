@@ -1,30 +1,30 @@
 -- What is known of a call by the place where it is made and by the class of its object: what is selected, and what an interface asks.
 use Rattle.std.specs.Prelude.{◌≡◌, ℕ, Bool, false, List, Option, Some, None, is_some, option_map}
-use Rattle.jheap.specs.declared.cell.Kind.{Kind}
-use Rattle.jheap.specs.declared.cell.Kind.TheVariants as kinds
+use Rattle.jmemory.specs.declared.jheap.cell.Kind.{Kind}
+use Rattle.jmemory.specs.declared.jheap.cell.Kind.TheVariants as kinds
 use Rattle.jlib.specs.declared.classes.LibClass.TheVariants as lib
 use Rattle.jtypes.specs.declared.vtype.Name.{Name}
-use Rattle.jtypes.specs.Fitting.{class_fits, is_above_arrays}
+use Rattle.jtypes.specs.Assignability.{class_fits, is_above_arrays}
 use Rattle.jclass.specs.declared.class.CodeBody.{CodeBody}
-use Rattle.jprogram.specs.declared.member.ClassId.{ClassId}
-use Rattle.jprogram.specs.declared.member.ClassId.TheVariants as id
-use Rattle.jprogram.specs.declared.member.Selected.{Selected}
-use Rattle.jprogram.specs.declared.member.Selected.TheVariants as selected
-use Rattle.jprogram.specs.declared.part.ClassRef.{ClassRef}
-use Rattle.jprogram.specs.Classes.{Program}
-use Rattle.jmeaning.specs.declared.juses.meaning.CallUse.{CallUse}
-use Rattle.jmeaning.specs.declared.juses.meaning.How.{How}
-use Rattle.jmeaning.specs.declared.juses.meaning.How.TheVariants as how
-use Rattle.jmeaning.specs.declared.juses.types.TypeRef.{TypeRef}
-use Rattle.jmeaning.specs.juses.Instructions.{code_at}
-use Rattle.jmeaning.specs.juses.Meanings.{Call, CallMeaning, Meaning, call_named, meant}
-use Rattle.jmeaning.specs.juses.Tables.{pool_at}
-use Rattle.jmeaning.specs.juses.Types.{class_named}
-use Rattle.jmodel.specs.jmachine.Calls.{is_hidden}
-use Rattle.jmodel.specs.jmachine.World.{class_id, own_tree, world}
-use Rattle.jready.specs.Meant.{call_form}
-use Rattle.jmodel.specs.jstate.Numbers.{class_numbered, library_number}
-use Rattle.jrows.specs.jcalls.Calling.{selected_on}
+use Rattle.jresolution.specs.declared.jprogram.member.ClassId.{ClassId}
+use Rattle.jresolution.specs.declared.jprogram.member.ClassId.TheVariants as id
+use Rattle.jresolution.specs.declared.jprogram.member.Selected.{Selected}
+use Rattle.jresolution.specs.declared.jprogram.member.Selected.TheVariants as selected
+use Rattle.jresolution.specs.declared.jprogram.part.ClassRef.{ClassRef}
+use Rattle.jresolution.specs.jprogram.ProgramClasses.{Program}
+use Rattle.jresolution.specs.declared.juses.meaning.CallUse.{CallUse}
+use Rattle.jresolution.specs.declared.juses.meaning.InvokeKind.{InvokeKind}
+use Rattle.jresolution.specs.declared.juses.meaning.InvokeKind.TheVariants as how
+use Rattle.jresolution.specs.declared.juses.types.TypeRef.{TypeRef}
+use Rattle.jresolution.specs.juses.IndexedInstructions.{code_at}
+use Rattle.jresolution.specs.juses.InstructionMeanings.{Call, CallMeaning, Meaning, call_named, meant}
+use Rattle.jresolution.specs.juses.PoolTables.{pool_at}
+use Rattle.jresolution.specs.juses.InternedTypes.{class_named}
+use Rattle.jsemantics.specs.jmachine.CallTargets.{is_hidden}
+use Rattle.jsemantics.specs.jmachine.World.{class_id, own_tree, world}
+use Rattle.jready.specs.DecodedInstructions.{call_form}
+use Rattle.jruntime.specs.jstate.ClassNumbers.{class_numbered, library_number}
+use Rattle.jrows.specs.jcalls.MethodCalls.{selected_on}
 use Rattle.jserving.specs.declared.jinvoke.choosing.Answer.{Answer}
 use Rattle.jserving.specs.declared.jinvoke.choosing.CallKey.{CallKey}
 use Rattle.jserving.specs.declared.jinvoke.choosing.Chosen.{Chosen}
@@ -67,12 +67,12 @@ chosen p (selected.Abstract m) = chosens.Abstract
 chosen p selected.Missing = chosens.Missing
 
 -- the object has the interface by which it is called
-abbrev pub has : Program → How → CallMeaning → Option ℕ → Bool
+abbrev pub has : Program → InvokeKind → CallMeaning → Option ℕ → Bool
 has p how.Interface c on = is_one_of p on c.owner
 has p by c on = false
 
 -- what is selected by an interface isn't public
-abbrev pub hides : Program → How → Selected → Bool
+abbrev pub hides : Program → InvokeKind → Selected → Bool
 hides p how.Interface s = is_hidden (world p) s
 hides p by s = false
 
@@ -103,7 +103,7 @@ unfoldable pub answer : Program → CallKey → Answer
 answer p k = answer_to p k (called_at p k)
 
 -- what is asked about a call by such an entry
-abbrev pub key : (class : ℕ) → How → (pool : ℕ) → Option ℕ → CallKey
+abbrev pub key : (class : ℕ) → InvokeKind → (pool : ℕ) → Option ℕ → CallKey
 key class by pool on = record { class = class; pool = pool; by = by; on = on }
 
 -- This is what a key's entry names, by the types that parameters have.
@@ -111,6 +111,6 @@ abbrev pub IsCallAt : Program → CallKey → Option CallUse → Type 0
 IsCallAt p k call = (types : List TypeRef) × (option_map (call_named p types) call ≡ called_at p k)
 
 -- This is the class by which the entry at an index of a class's pool names the method of a call, if it names one.
-abbrev pub OwnerIs : Program → (class : ℕ) → How → (pool : ℕ) → Option ClassRef → Type 0
-OwnerIs p class by pool owner = (way : How) (c : CallMeaning) → meant p (pool_at p class) (call_form by pool) ≡ Some (Call way c)
+abbrev pub OwnerIs : Program → (class : ℕ) → InvokeKind → (pool : ℕ) → Option ClassRef → Type 0
+OwnerIs p class by pool owner = (way : InvokeKind) (c : CallMeaning) → meant p (pool_at p class) (call_form by pool) ≡ Some (Call way c)
     → (r : ClassRef) × (owner ≡ Some r) × (c.owner ≡ class_named p r)

@@ -1,19 +1,19 @@
 ghost use Rattle.std.specs.Prelude.{◌≡◌, IfOk, true};
 ghost use Rattle.std.specs.List.{list_any};
 ghost use Rattle.std.specs.Str.{bytes_eq};
-ghost use Rattle.jlib.specs.Classes as library;
-ghost use Rattle.jprogram.specs.Classes;
-ghost use Rattle.jprogram.specs.Classes.{name_at, tree};
-ghost use Rattle.jprogram.specs.Implementing.{IsNumber};
-ghost use Rattle.jprogram.specs.Standing.{StandsInOrder};
-ghost use Rattle.jmeaning.specs.juses.Types.{class_named};
+ghost use Rattle.jlib.specs.LibraryClasses as library;
+ghost use Rattle.jresolution.specs.jprogram.ProgramClasses;
+ghost use Rattle.jresolution.specs.jprogram.ProgramClasses.{name_at, tree};
+ghost use Rattle.jresolution.specs.jprogram.ImplementedInterfaces.{IsNumber};
+ghost use Rattle.jresolution.specs.jprogram.OrderedPrograms.{StandsInOrder};
+ghost use Rattle.jresolution.specs.juses.InternedTypes.{class_named};
 
 use crate::jfits::columns;
 use crate::jfits::lines::{Line, lines_of};
 use jground::jbase::Seq;
 use jlib::LibClass;
 use jlinking::jlink::LinkedProgram;
-use jprogram::{ClassRef, NamedProgram};
+use jresolution::jprogram::{ClassRef, NamedProgram};
 use std::alloc::{AllocError, Global};
 use std::marker::Model;
 
@@ -25,8 +25,8 @@ pub struct Ancestors<'p> {
 }
 
 impl<'p> Model for Ancestors<'p> {
-    ghost use Rattle.jprogram.specs.Classes.{Program};
-    ghost use Rattle.jserving.specs.jfits.Lined.{AreLines};
+    ghost use Rattle.jresolution.specs.jprogram.ProgramClasses.{Program};
+    ghost use Rattle.jserving.specs.jfits.SubtypeTables.{AreLines};
 
     ghost Value = { Program };
 
@@ -67,7 +67,7 @@ impl<'p> Ancestors<'p> {
     }
 
     /// Whether two classes of the program are one.
-    #[tactic(auto, using(crate::proofs::JfitsProofs::Upward::one_if, crate::proofs::JfitsProofs::Upward::two_if))]
+    #[tactic(auto, using(crate::proofs::JfitsProofs::SuperclassWalks::one_if, crate::proofs::JfitsProofs::SuperclassWalks::two_if))]
     fn are_same(&self, c: ClassRef, d: ClassRef) -> bool
         requires first { IsNumber self.now c }
         requires second { IsNumber self.now d }
@@ -92,7 +92,7 @@ impl<'p> Ancestors<'p> {
     /// The class above a class of the program.
     fn above(&self, c: ClassRef) -> Option<ClassRef>
         requires { IsNumber self.now c }
-        ensures { result ≡ Classes.super_at self.now c }
+        ensures { result ≡ ProgramClasses.super_at self.now c }
     {
         self.order_law();
         match c {
@@ -125,7 +125,7 @@ impl<'p> Ancestors<'p> {
     fn is_upwards(&self, c: ClassRef, d: ClassRef) -> bool
         requires first { IsNumber self.now c }
         requires second { IsNumber self.now d }
-        ensures { result ≡ list_any (bytes_eq (name_at self.now d)) (Classes.up self.now (name_at self.now c)) }
+        ensures { result ≡ list_any (bytes_eq (name_at self.now d)) (ProgramClasses.up self.now (name_at self.now c)) }
     {
         let mut at = c;
         let steps = self.named().most_steps();
@@ -142,11 +142,11 @@ impl<'p> Ancestors<'p> {
     }
 
     /// Whether a class of the program is another one or stands below it (JVMS 4.1). Each stands below Object.
-    #[tactic(auto, unfolding(jprogram::specs::Classes::extends))]
+    #[tactic(auto, unfolding(jresolution::specs::jprogram::ProgramClasses::extends))]
     pub(crate) fn extends(&self, c: ClassRef, d: ClassRef) -> bool
         requires first { IsNumber self.now c }
         requires second { IsNumber self.now d }
-        ensures { result ≡ Classes.extends self.now (name_at self.now c) (name_at self.now d) }
+        ensures { result ≡ ProgramClasses.extends self.now (name_at self.now c) (name_at self.now d) }
     {
         if self.is_lib(d, LibClass::Object) {
             return true;
@@ -156,7 +156,7 @@ impl<'p> Ancestors<'p> {
 
     /// Whether a class has an interface, itself or by a class above it, directly or through others, of any two numbers.
     pub(crate) fn implements(&self, c: ClassRef, d: ClassRef) -> bool
-        ensures { result ≡ Classes.implements self.now (name_at self.now c) (name_at self.now d) }
+        ensures { result ≡ ProgramClasses.implements self.now (name_at self.now c) (name_at self.now d) }
     {
         self.program.implements_at(c, d)
     }

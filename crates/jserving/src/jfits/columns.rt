@@ -1,5 +1,5 @@
 ghost use Rattle.std.specs.Prelude.{◌≡◌, Some};
-ghost use Rattle.jlib.specs.Classes as library;
+ghost use Rattle.jlib.specs.LibraryClasses as library;
 
 use jlib::{LibClass, PermissionClass, Thrown};
 
@@ -86,7 +86,7 @@ pub(crate) fn above(class: LibClass) -> Option<LibClass>
 }
 
 /// Whether a class of the library is an interface.
-#[tactic(auto, using(crate::proofs::JfitsProofs::Kinded::no_thrown, crate::proofs::JfitsProofs::Kinded::no_permission))]
+#[tactic(auto, using(crate::proofs::JfitsProofs::ClassKinds::no_thrown, crate::proofs::JfitsProofs::ClassKinds::no_permission))]
 pub(crate) fn is_interface(class: LibClass) -> bool
     ensures { result ≡ library.is_interface class }
 {

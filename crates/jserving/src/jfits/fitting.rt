@@ -1,17 +1,17 @@
 ghost use Rattle.std.specs.Prelude.{◌≡◌, true};
 ghost use Rattle.jtypes.specs.declared.vtype.VType.TheVariants as types;
-ghost use Rattle.jtypes.specs.Fitting;
+ghost use Rattle.jtypes.specs.Assignability;
 ghost use Rattle.jtypes.specs.ProofNames;
-ghost use Rattle.jprogram.specs.Classes.{tree};
-ghost use Rattle.jprogram.specs.Implementing.{IsNumber};
-ghost use Rattle.jmeaning.specs.juses.Types.{class_named, element_named, named};
-ghost use Rattle.jserving.specs.jfits.Asked as comparing;
-ghost use Rattle.jserving.specs.jfits.Asked.{above_by, tree_by};
+ghost use Rattle.jresolution.specs.jprogram.ProgramClasses.{tree};
+ghost use Rattle.jresolution.specs.jprogram.ImplementedInterfaces.{IsNumber};
+ghost use Rattle.jresolution.specs.juses.InternedTypes.{class_named, element_named, named};
+ghost use Rattle.jserving.specs.jfits.TypeQueries as comparing;
+ghost use Rattle.jserving.specs.jfits.TypeQueries.{above_by, tree_by};
 
 use crate::jfits::ancestors::Ancestors;
 use jlib::LibClass;
-use jmeaning::juses::{ArrayRef, ElementRef, TypeRef, stands_below};
-use jprogram::{ClassRef, NamedProgram};
+use jresolution::jprogram::{ClassRef, NamedProgram};
+use jresolution::juses::{ArrayRef, ElementRef, TypeRef, stands_below};
 
 /// How types are compared.
 #[derive(Clone, Copy)]
@@ -25,7 +25,7 @@ pub(crate) enum Asked {
 // ---- numbers that stand for no class of the program, which no machine meets: by their names
 
 fn stranger_above_arrays(p: &NamedProgram, d: ClassRef) -> bool
-    ensures { result ≡ Fitting.is_above_arrays (class_named p.now d) }
+    ensures { result ≡ Assignability.is_above_arrays (class_named p.now d) }
 {
     let name = p.name_of(d);
     name == b"java/lang/Object".as_slice()
@@ -50,7 +50,7 @@ fn stranger_is_above(a: &Ancestors<'_>, asked: Asked, d: ClassRef) -> bool
 }
 
 fn stranger_fits(a: &Ancestors<'_>, asked: Asked, c: ClassRef, d: ClassRef) -> bool
-    ensures { result ≡ Fitting.class_fits (tree_by a.now asked) (class_named a.now c) (class_named a.now d) }
+    ensures { result ≡ Assignability.class_fits (tree_by a.now asked) (class_named a.now c) (class_named a.now d) }
 {
     let p = a.named();
     match asked {
@@ -64,7 +64,7 @@ fn stranger_fits(a: &Ancestors<'_>, asked: Asked, c: ClassRef, d: ClassRef) -> b
 /// Whether every array fits a class or an interface, in each program.
 fn is_above_arrays(a: &Ancestors<'_>, d: ClassRef) -> bool
     requires { IsNumber a.now d }
-    ensures { result ≡ Fitting.is_above_arrays (class_named a.now d) }
+    ensures { result ≡ Assignability.is_above_arrays (class_named a.now d) }
 {
     a.is_lib(d, LibClass::Object)
         || a.is_lib(d, LibClass::Cloneable)
@@ -89,7 +89,7 @@ fn is_above(a: &Ancestors<'_>, asked: Asked, d: ClassRef) -> bool
 fn known_fits(a: &Ancestors<'_>, asked: Asked, c: ClassRef, d: ClassRef) -> bool
     requires first { IsNumber a.now c }
     requires second { IsNumber a.now d }
-    ensures { result ≡ Fitting.class_fits (tree_by a.now asked) (class_named a.now c) (class_named a.now d) }
+    ensures { result ≡ Assignability.class_fits (tree_by a.now asked) (class_named a.now c) (class_named a.now d) }
 {
     match asked {
         Asked::Fits => a.is_interface(d) || a.extends(c, d),
@@ -99,7 +99,7 @@ fn known_fits(a: &Ancestors<'_>, asked: Asked, c: ClassRef, d: ClassRef) -> bool
 
 /// The same of any two numbers.
 fn class_fits(a: &Ancestors<'_>, asked: Asked, c: ClassRef, d: ClassRef) -> bool
-    ensures { result ≡ Fitting.class_fits (tree_by a.now asked) (class_named a.now c) (class_named a.now d) }
+    ensures { result ≡ Assignability.class_fits (tree_by a.now asked) (class_named a.now c) (class_named a.now d) }
 {
     if !a.is_known(c) {
         return stranger_fits(a, asked, c, d);
@@ -149,7 +149,7 @@ fn is_object(d: ClassRef) -> bool
 /// The same, where the two are mostly one, or the second is Object.
 #[inline]
 fn class_fits_soon(a: &Ancestors<'_>, asked: Asked, c: ClassRef, d: ClassRef) -> bool
-    ensures { result ≡ Fitting.class_fits (tree_by a.now asked) (class_named a.now c) (class_named a.now d) }
+    ensures { result ≡ Assignability.class_fits (tree_by a.now asked) (class_named a.now c) (class_named a.now d) }
 {
     if are_one(c, d) {
         return true;
@@ -173,7 +173,7 @@ fn is_above_array(a: &Ancestors<'_>, asked: Asked, x: ElementRef) -> bool
 
 /// Whether what an array of one dimension holds fits what another one holds.
 fn element_fits(a: &Ancestors<'_>, asked: Asked, x: ElementRef, y: ElementRef) -> bool
-    ensures { result ≡ Fitting.element_fits (tree_by a.now asked) (element_named a.now x) (element_named a.now y) }
+    ensures { result ≡ Assignability.element_fits (tree_by a.now asked) (element_named a.now x) (element_named a.now y) }
 {
     match y {
         ElementRef::Boolean => matches!(x, ElementRef::Boolean),
@@ -190,9 +190,9 @@ fn element_fits(a: &Ancestors<'_>, asked: Asked, x: ElementRef, y: ElementRef) -
 }
 
 /// Whether an array fits another one.
-#[tactic(auto, using(crate::proofs::JfitsProofs::Comparing::fewer, crate::proofs::JfitsProofs::Comparing::more, crate::proofs::JfitsProofs::Comparing::as_many))]
+#[tactic(auto, using(crate::proofs::JfitsProofs::TypeFits::fewer, crate::proofs::JfitsProofs::TypeFits::more, crate::proofs::JfitsProofs::TypeFits::as_many))]
 fn array_fits(a: &Ancestors<'_>, asked: Asked, x: ArrayRef, y: ArrayRef) -> bool
-    ensures { result ≡ Fitting.array_fits (above_by a.now asked) (tree_by a.now asked) x.depth (element_named a.now x.element)
+    ensures { result ≡ Assignability.array_fits (above_by a.now asked) (tree_by a.now asked) x.depth (element_named a.now x.element)
         y.depth (element_named a.now y.element) }
 {
     if x.depth < y.depth {
@@ -209,7 +209,7 @@ fn array_fits(a: &Ancestors<'_>, asked: Asked, x: ArrayRef, y: ArrayRef) -> bool
 /// Whether a value of a type fits a class or an interface.
 #[inline]
 fn object_fits(a: &Ancestors<'_>, asked: Asked, x: TypeRef, d: ClassRef) -> bool
-    ensures { result ≡ Fitting.fits_where (above_by a.now asked) (tree_by a.now asked) (named a.now x) (types.Object (class_named a.now d)) }
+    ensures { result ≡ Assignability.fits_where (above_by a.now asked) (tree_by a.now asked) (named a.now x) (types.Object (class_named a.now d)) }
 {
     match x {
         TypeRef::Null => true,
@@ -221,7 +221,7 @@ fn object_fits(a: &Ancestors<'_>, asked: Asked, x: TypeRef, d: ClassRef) -> bool
 
 #[inline]
 fn type_fits(a: &Ancestors<'_>, asked: Asked, x: TypeRef, y: TypeRef) -> bool
-    ensures { result ≡ Fitting.fits_where (above_by a.now asked) (tree_by a.now asked) (named a.now x) (named a.now y) }
+    ensures { result ≡ Assignability.fits_where (above_by a.now asked) (tree_by a.now asked) (named a.now x) (named a.now y) }
 {
     match y {
         TypeRef::Top => true,

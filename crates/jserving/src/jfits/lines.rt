@@ -1,8 +1,8 @@
 ghost use Rattle.std.specs.Prelude.{◌≡◌, IfOk};
-ghost use Rattle.jserving.specs.jfits.Lined.{AreLines, IsLine};
+ghost use Rattle.jserving.specs.jfits.SubtypeTables.{AreLines, IsLine};
 
 use jground::jbase::Seq;
-use jprogram::{ClassRef, NamedProgram};
+use jresolution::jprogram::{ClassRef, NamedProgram};
 use std::alloc::{AllocError, Global};
 
 /// What is kept of a user's class.

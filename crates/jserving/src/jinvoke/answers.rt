@@ -1,25 +1,25 @@
 ghost use Rattle.std.specs.Prelude.{◌≡◌, IfOk};
 ghost use Rattle.jserving.specs.jinvoke.Answers;
 ghost use Rattle.jserving.specs.jinvoke.Answers.{OwnerIs};
-ghost use Rattle.jserving.specs.jinvoke.Asked.{call_of, class_of, told};
-ghost use Rattle.jserving.specs.jinvoke.Faces;
+ghost use Rattle.jserving.specs.jinvoke.CallQueries.{call_of, class_of, told};
+ghost use Rattle.jserving.specs.jinvoke.InterfaceCalls;
 
 use crate::jfits::Ancestors;
 use crate::jinvoke::asked::{Asked, Face};
 use crate::jinvoke::choosing::{Answer, Beside, CallKey};
-use crate::jinvoke::known::Known;
+use crate::jinvoke::method_lookup::MethodLookup;
 use crate::jinvoke::sites::Sites;
-use jmeaning::juses::How;
-use jmemo::Memo;
-use jprogram::ClassRef;
+use jcache::Memo;
 use jready::Ready;
+use jresolution::jprogram::ClassRef;
+use jresolution::juses::InvokeKind;
 use std::alloc::{AllocError, Global};
 use std::marker::Model;
 
 /// A program, with what was asked about its calls, which is remembered. Contracts see the program.
 #[derive(Drop)]
 pub struct Calls<'p> {
-    known: Known<'p>,
+    known: MethodLookup<'p>,
     /// The last answer at each site.
     sites: Sites,
     /// Other answers: for a site whose objects are of many classes, and of calls that the machine makes itself.
@@ -27,11 +27,11 @@ pub struct Calls<'p> {
 }
 
 impl<'p> Model for Calls<'p> {
-    ghost use Rattle.jmemo.specs.Memos.{Remembers};
-    ghost use Rattle.jprogram.specs.Classes.{Program};
+    ghost use Rattle.jcache.specs.CacheEntries.{Remembers};
+    ghost use Rattle.jresolution.specs.jprogram.ProgramClasses.{Program};
     ghost use Rattle.jserving.specs.jinvoke.Answers.{answer};
-    ghost use Rattle.jserving.specs.jinvoke.Asked.{told};
-    ghost use Rattle.jserving.specs.jinvoke.Sites.{Remember};
+    ghost use Rattle.jserving.specs.jinvoke.CallQueries.{told};
+    ghost use Rattle.jserving.specs.jinvoke.CallSiteCache.{Remember};
 
     ghost Value = { Program };
 
@@ -50,7 +50,7 @@ impl<'p> Calls<'p> {
         requires { ancestors.now ≡ ready.now.program }
         ensures { IfOk result (λ c. c ≡ ready.now.program) }
     {
-        let known = Known::of(ready, ancestors);
+        let known = MethodLookup::of(ready, ancestors);
         let sites = Sites::new(alloc);
         let answers = Memo::new(alloc)?;
         Ok(Calls {
@@ -61,7 +61,7 @@ impl<'p> Calls<'p> {
     }
 
     /// What is known of the program.
-    pub fn known(&self) -> &Known<'p>
+    pub fn known(&self) -> &MethodLookup<'p>
         ensures { result.now ≡ self.now }
     {
         &self.known
@@ -82,7 +82,7 @@ impl<'p> Calls<'p> {
 
     /// What is known of a call that the machine makes itself, on an object of the class of one of the heap's numbers.
     pub(crate) fn face_answer(&mut self, face: Face, on: Option<u32>) -> Answer
-        ensures answer { result ≡ Faces.face_answer self.old (class_of face) (call_of face) on }
+        ensures answer { result ≡ InterfaceCalls.face_answer self.old (class_of face) (call_of face) on }
         ensures same { self.new ≡ self.old }
     {
         self.sought(Asked::Face { face, on })
@@ -114,7 +114,7 @@ impl<'p> Calls<'p> {
 
     /// The class by which the entry at an index of the pool of a class names the method of such a call. `site` says where it is remembered.
     #[inline(always)]
-    pub fn owner_at(&self, site: usize, class: u32, by: How, pool: u16) -> Option<ClassRef>
+    pub fn owner_at(&self, site: usize, class: u32, by: InvokeKind, pool: u16) -> Option<ClassRef>
         ensures { OwnerIs self.now class by pool result }
     {
         if let Some(owner) = self.sites.owner(site, class, by, pool) {

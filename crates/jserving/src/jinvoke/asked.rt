@@ -1,9 +1,9 @@
 ghost use Rattle.std.specs.Prelude.{◌≡◌, ◌≤◌};
-ghost use Rattle.jserving.specs.jinvoke.Asked.{call_of, class_of, number_with};
+ghost use Rattle.jserving.specs.jinvoke.CallQueries.{call_of, class_of, number_with};
 
 use crate::jinvoke::choosing::CallKey;
+use jcache::Key;
 use jlib::{LibCall, LibClass, Side};
-use jmemo::Key;
 
 /// A method of an interface of a side's library that the machine calls itself, which no entry of a pool names.
 #[derive(Clone, Copy, Debug, PartialEq, Eq)]
@@ -58,7 +58,7 @@ fn number_at(site: u64, on: Option<u32>) -> u64
 
 impl Key for Asked {
     ghost use Rattle.std.proofs.Common.{rules};
-    ghost use Rattle.jserving.specs.jinvoke.Asked.{asked_number};
+    ghost use Rattle.jserving.specs.jinvoke.CallQueries.{asked_number};
 
     ghost numbered = { asked_number };
 

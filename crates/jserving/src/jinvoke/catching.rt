@@ -1,26 +1,32 @@
 ghost use Rattle.std.specs.Prelude.{◌≡◌};
 ghost use Rattle.std.specs.List.{find};
-ghost use Rattle.jmodel.specs.jmachine.Unwinding.{handler_at};
-ghost use Rattle.jready.specs.Handling.{handled, row_takes};
+ghost use Rattle.jsemantics.specs.jmachine.Unwinding.{handler_at};
+ghost use Rattle.jready.specs.HandlerTables.{handled, row_takes};
 ghost use Rattle.jtypes.specs.declared.vtype.VType.TheVariants as types;
-ghost use Rattle.jmeaning.specs.juses.Tables.{pool_at};
-ghost use Rattle.jmeaning.specs.juses.Types.{class_named};
-ghost use Rattle.jserving.specs.jinvoke.Told.{Told};
+ghost use Rattle.jresolution.specs.juses.PoolTables.{pool_at};
+ghost use Rattle.jresolution.specs.juses.InternedTypes.{class_named};
+ghost use Rattle.jserving.specs.jinvoke.HandlerLookUps.{Told};
 
-use crate::jinvoke::known::Known;
-use jprogram::{ClassRef, MethodId};
+use crate::jinvoke::method_lookup::MethodLookup;
 use jready::HandlerRow;
+use jresolution::jprogram::{ClassRef, MethodId};
 use jrows::jcalls::Handlers;
 
 /// An object of a class is thrown, in a program.
 #[derive(Clone, Copy)]
 pub struct ThrownAs<'k, 'p> {
-    pub known: &'k Known<'p>,
+    pub known: &'k MethodLookup<'p>,
     pub class: ClassRef,
 }
 
 /// Whether a handler handles what is thrown at a place of the code of a part.
-fn takes(known: &Known<'_>, thrown: ClassRef, class: u32, place: u32, row: HandlerRow) -> bool
+fn takes(
+    known: &MethodLookup<'_>,
+    thrown: ClassRef,
+    class: u32,
+    place: u32,
+    row: HandlerRow,
+) -> bool
     ensures { result ≡ row_takes known.now (pool_at known.now class) (types.Object (class_named known.now thrown)) place row }
 {
     if place < row.start || place >= row.end {
@@ -34,7 +40,7 @@ fn takes(known: &Known<'_>, thrown: ClassRef, class: u32, place: u32, row: Handl
 
 /// The first handler that handles it.
 fn first_taking(
-    known: &Known<'_>,
+    known: &MethodLookup<'_>,
     thrown: ClassRef,
     class: u32,
     place: u32,
@@ -52,7 +58,7 @@ fn first_taking(
 
 /// The number at which the first of them goes on that handles it.
 fn handled_at(
-    known: &Known<'_>,
+    known: &MethodLookup<'_>,
     thrown: ClassRef,
     class: u32,
     place: u32,
@@ -69,7 +75,7 @@ fn handled_at(
 impl<'k, 'p> Handlers for ThrownAs<'k, 'p> {
     ghost goes = { λ t m i. handler_at t.known.now (types.Object (class_named t.known.now t.class)) m i };
 
-    #[tactic(auto, using(crate::proofs::JinvokeProofs::Caught::without_code, crate::proofs::JinvokeProofs::Caught::behind_code, crate::proofs::JinvokeProofs::Caught::within_code))]
+    #[tactic(auto, using(crate::proofs::JinvokeProofs::HandlerLookup::without_code, crate::proofs::JinvokeProofs::HandlerLookup::behind_code, crate::proofs::JinvokeProofs::HandlerLookup::within_code))]
     fn find(&self, method: MethodId, place: u32) -> Option<u32> {
         let ready = self.known.ready();
         let Some(row) = ready.row_of(method) else {
@@ -84,7 +90,7 @@ impl<'k, 'p> Handlers for ThrownAs<'k, 'p> {
 }
 
 /// The law of handlers: where all frames go on is told as the machine's definition has it. It has no body to run; its contract is the law.
-#[tactic(auto, using(crate::proofs::JinvokeProofs::Caught::all_told))]
+#[tactic(auto, using(crate::proofs::JinvokeProofs::HandlerLookup::all_told))]
 pub fn told_law<M>()
     ensures { Told M }
 {}

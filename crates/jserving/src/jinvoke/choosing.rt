@@ -1,31 +1,31 @@
 ghost use Rattle.std.specs.Prelude.{◌≡◌, ℕ, List, option_map};
 ghost use Rattle.std.specs.Str.{bytes_eq};
-ghost use Rattle.jrows.specs.jcalls.Calling.{selected_on};
-ghost use Rattle.jmodel.specs.jmachine.Calls;
-ghost use Rattle.jmodel.specs.jmachine.World;
-ghost use Rattle.jmodel.specs.jmachine.World.{world};
+ghost use Rattle.jrows.specs.jcalls.MethodCalls.{selected_on};
+ghost use Rattle.jsemantics.specs.jmachine.CallTargets;
+ghost use Rattle.jsemantics.specs.jmachine.World;
+ghost use Rattle.jsemantics.specs.jmachine.World.{world};
 ghost use Rattle.jparts.specs.declared.jpool.entry.Entry.{Entry};
-ghost use Rattle.jprogram.specs.declared.member.Member.TheVariants as members;
-ghost use Rattle.jprogram.specs.declared.member.Selected.TheVariants as selections;
-ghost use Rattle.jprogram.specs.Classes.{Program};
-ghost use Rattle.jready.specs.Meant.{call_form};
-ghost use Rattle.jtypes.specs.Fitting;
-ghost use Rattle.jmeaning.specs.declared.juses.types.TypeRef.{TypeRef};
-ghost use Rattle.jmeaning.specs.juses.Meanings.{call_named, meaning_of};
-ghost use Rattle.jmeaning.specs.juses.Types.{class_named};
+ghost use Rattle.jresolution.specs.declared.jprogram.member.Member.TheVariants as members;
+ghost use Rattle.jresolution.specs.declared.jprogram.member.Selected.TheVariants as selections;
+ghost use Rattle.jresolution.specs.jprogram.ProgramClasses.{Program};
+ghost use Rattle.jready.specs.DecodedInstructions.{call_form};
+ghost use Rattle.jtypes.specs.Assignability;
+ghost use Rattle.jresolution.specs.declared.juses.types.TypeRef.{TypeRef};
+ghost use Rattle.jresolution.specs.juses.InstructionMeanings.{call_named, meaning_of};
+ghost use Rattle.jresolution.specs.juses.InternedTypes.{class_named};
 ghost use Rattle.jserving.specs.jinvoke.Answers;
 ghost use Rattle.jserving.specs.jinvoke.Answers.{IsCallAt, OwnerIs, id_on, in_meaning, key, number_by};
-ghost use Rattle.jserving.specs.jinvoke.Asked.{call_of, class_of, told};
-ghost use Rattle.jserving.specs.jinvoke.Faces.{face_answer};
+ghost use Rattle.jserving.specs.jinvoke.CallQueries.{call_of, class_of, told};
+ghost use Rattle.jserving.specs.jinvoke.InterfaceCalls.{face_answer};
 
 use crate::jinvoke::asked::{Asked, Face};
-use crate::jinvoke::known::Known;
-use jheap::Kind;
+use crate::jinvoke::method_lookup::MethodLookup;
 use jlib::{LibCall, LibClass};
-use jmeaning::juses::{CallUse, How, Use, code_at};
-use jmodel::jstate::{class_numbered, library_number};
+use jmemory::jheap::Kind;
 use jparts::jcode::{CallOp, PoolForm};
-use jprogram::{CallKind, ClassId, ClassRef, Member, MethodId, Reach, Selected};
+use jresolution::jprogram::{CallKind, ClassId, ClassRef, Member, MethodId, Reach, Selected};
+use jresolution::juses::{CallUse, InvokeKind, Use, code_at};
+use jruntime::jstate::{class_numbered, library_number};
 
 /// What is asked about a call: the class in whose code it stands, by its place among the parts, the index of its entry, how it calls, and
 /// the heap's number for the class of its object, where it looks for a method there. Arrays have none.
@@ -33,7 +33,7 @@ use jprogram::{CallKind, ClassId, ClassRef, Member, MethodId, Reach, Selected};
 pub struct CallKey {
     pub class: u32,
     pub pool: u16,
-    pub by: How,
+    pub by: InvokeKind,
     pub on: Option<u32>,
 }
 
@@ -88,16 +88,16 @@ pub fn number_of(kind: Kind) -> Option<u32>
 
 /// What a call asks of the class of its object, which is of a kind: the heap's number for it. Where the class doesn't matter it asks nothing.
 #[inline]
-#[tactic(auto, using(crate::proofs::JinvokeProofs::Asking::special_alike, crate::proofs::JinvokeProofs::Asking::static_alike, crate::proofs::JinvokeProofs::Asking::init_alike))]
-pub(crate) fn asked_of(by: How, kind: Kind) -> Option<u32>
+#[tactic(auto, using(crate::proofs::JinvokeProofs::ReceiverClasses::special_alike, crate::proofs::JinvokeProofs::ReceiverClasses::static_alike, crate::proofs::JinvokeProofs::ReceiverClasses::init_alike))]
+pub(crate) fn asked_of(by: InvokeKind, kind: Kind) -> Option<u32>
     ensures { (p : Program) (class pool : ℕ) → Answers.answer p (key class by pool result) ≡ Answers.answer p (key class by pool (number_by kind)) }
 {
     match by {
-        How::Virtual => number_of(kind),
-        How::Special => None,
-        How::Static => None,
-        How::Interface => number_of(kind),
-        How::Init => None,
+        InvokeKind::Virtual => number_of(kind),
+        InvokeKind::Special => None,
+        InvokeKind::Static => None,
+        InvokeKind::Interface => number_of(kind),
+        InvokeKind::Init => None,
     }
 }
 
@@ -119,15 +119,15 @@ fn id_of(on: Option<u32>) -> ClassId
     }
 }
 
-fn form_of(by: How, pool: u16) -> PoolForm
+fn form_of(by: InvokeKind, pool: u16) -> PoolForm
     ensures { result ≡ call_form by pool }
 {
     match by {
-        How::Virtual => PoolForm::Call(CallOp::Virtual, pool),
-        How::Special => PoolForm::Call(CallOp::Special, pool),
-        How::Static => PoolForm::Call(CallOp::Static, pool),
-        How::Interface => PoolForm::CallInterface(pool, 0),
-        How::Init => PoolForm::Call(CallOp::Special, pool),
+        InvokeKind::Virtual => PoolForm::Call(CallOp::Virtual, pool),
+        InvokeKind::Special => PoolForm::Call(CallOp::Special, pool),
+        InvokeKind::Static => PoolForm::Call(CallOp::Static, pool),
+        InvokeKind::Interface => PoolForm::CallInterface(pool, 0),
+        InvokeKind::Init => PoolForm::Call(CallOp::Special, pool),
     }
 }
 
@@ -149,9 +149,9 @@ fn call_in(meant: Option<Use>) -> Option<CallUse>
 
 // ---- what is selected
 
-impl<'p> Known<'p> {
+impl<'p> MethodLookup<'p> {
     fn is_above_arrays(&self, class: ClassRef) -> bool
-        ensures { result ≡ Fitting.is_above_arrays (class_named self.now class) }
+        ensures { result ≡ Assignability.is_above_arrays (class_named self.now class) }
     {
         let name = self.program().name_of(class);
         name == b"java/lang/Object".as_slice()
@@ -170,14 +170,14 @@ impl<'p> Known<'p> {
     }
 
     /// A method as it is.
-    #[tactic(auto, unfolding(jmodel::specs::jmachine::World::world))]
+    #[tactic(auto, unfolding(jsemantics::specs::jmachine::World::world))]
     fn itself(&self, member: Member) -> Selected
         ensures { result ≡ (world self.now).itself member }
     {
         self.program().named().itself(member)
     }
 
-    #[tactic(auto, unfolding(jmodel::specs::jmachine::World::world))]
+    #[tactic(auto, unfolding(jsemantics::specs::jmachine::World::world))]
     fn select(&self, on: ClassId, member: Member, kind: CallKind) -> Selected
         ensures { result ≡ (world self.now).select on member kind }
     {
@@ -185,9 +185,9 @@ impl<'p> Known<'p> {
     }
 
     /// The method that is selected from the class above on.
-    #[tactic(auto, unfolding(jmodel::specs::jmachine::World::world))]
+    #[tactic(auto, unfolding(jsemantics::specs::jmachine::World::world))]
     fn from_above(&self, class: u32, member: Member) -> Selected
-        ensures { result ≡ Calls.from_above (world self.now) member ((world self.now).above class) }
+        ensures { result ≡ CallTargets.from_above (world self.now) member ((world self.now).above class) }
     {
         match self.program().named().super_of(ClassRef::User(class)) {
             None => Selected::Missing,
@@ -195,7 +195,7 @@ impl<'p> Known<'p> {
         }
     }
 
-    #[tactic(auto, unfolding(jmodel::specs::jmachine::World::world))]
+    #[tactic(auto, unfolding(jsemantics::specs::jmachine::World::world))]
     fn is_own(&self, class: u32, owner: ClassRef) -> bool
         ensures { result ≡ bytes_eq (class_named self.now owner).0 ((world self.now).named class).0 }
     {
@@ -204,7 +204,7 @@ impl<'p> Known<'p> {
 
     /// A method of this class as it is, one of a class above as that class has it.
     fn special(&self, class: u32, call: &CallUse) -> Selected
-        ensures { (types : List TypeRef) → result ≡ Calls.special (world self.now) class (call_named self.now types call.now) }
+        ensures { (types : List TypeRef) → result ≡ CallTargets.special (world self.now) class (call_named self.now types call.now) }
     {
         if self.is_own(class, call.owner) {
             return self.itself(call.member);
@@ -216,18 +216,18 @@ impl<'p> Known<'p> {
         ensures { (types : List TypeRef) → result ≡ selected_on (world self.now) key.class key.by (call_named self.now types call.now) (id_on key.on) }
     {
         match key.by {
-            How::Virtual => self.select(id_of(key.on), call.member, CallKind::Virtual),
-            How::Special => self.special(key.class, call),
-            How::Static => self.itself(call.member),
-            How::Interface => self.select(id_of(key.on), call.member, CallKind::Interface),
-            How::Init => self.itself(call.member),
+            InvokeKind::Virtual => self.select(id_of(key.on), call.member, CallKind::Virtual),
+            InvokeKind::Special => self.special(key.class, call),
+            InvokeKind::Static => self.itself(call.member),
+            InvokeKind::Interface => self.select(id_of(key.on), call.member, CallKind::Interface),
+            InvokeKind::Init => self.itself(call.member),
         }
     }
 
     // ---- the answer
 
     /// A user's method that is selected.
-    #[tactic(auto, using(crate::proofs::JinvokeProofs::Picked::bare_is, crate::proofs::JinvokeProofs::Picked::coded_is))]
+    #[tactic(auto, using(crate::proofs::JinvokeProofs::CallAnswers::bare_is, crate::proofs::JinvokeProofs::CallAnswers::coded_is))]
     fn method_chosen(&self, method: MethodId) -> Chosen
         ensures { result ≡ Answers.chosen self.now (selections.Method method) }
     {
@@ -258,7 +258,7 @@ impl<'p> Known<'p> {
         }
     }
 
-    #[tactic(auto, unfolding(jmodel::specs::jmachine::World::world))]
+    #[tactic(auto, unfolding(jsemantics::specs::jmachine::World::world))]
     fn is_public(&self, method: Member) -> bool
         ensures { result ≡ (world self.now).is_public method }
     {
@@ -266,7 +266,7 @@ impl<'p> Known<'p> {
     }
 
     fn is_hidden(&self, found: Selected) -> bool
-        ensures { result ≡ Calls.is_hidden (world self.now) found }
+        ensures { result ≡ CallTargets.is_hidden (world self.now) found }
     {
         match found {
             Selected::Method(m) => !self.is_public(Member::Method(m)),
@@ -276,15 +276,15 @@ impl<'p> Known<'p> {
         }
     }
 
-    fn hides(&self, by: How, found: Selected) -> bool
+    fn hides(&self, by: InvokeKind, found: Selected) -> bool
         ensures { result ≡ Answers.hides self.now by found }
     {
         match by {
-            How::Interface => self.is_hidden(found),
-            How::Virtual => false,
-            How::Special => false,
-            How::Static => false,
-            How::Init => false,
+            InvokeKind::Interface => self.is_hidden(found),
+            InvokeKind::Virtual => false,
+            InvokeKind::Special => false,
+            InvokeKind::Static => false,
+            InvokeKind::Init => false,
         }
     }
 
@@ -292,15 +292,15 @@ impl<'p> Known<'p> {
         ensures { (types : List TypeRef) → result ≡ Answers.has self.now key.by (call_named self.now types call.now) key.on }
     {
         match key.by {
-            How::Interface => self.is_one_of(key.on, call.owner),
-            How::Virtual => false,
-            How::Special => false,
-            How::Static => false,
-            How::Init => false,
+            InvokeKind::Interface => self.is_one_of(key.on, call.owner),
+            InvokeKind::Virtual => false,
+            InvokeKind::Special => false,
+            InvokeKind::Static => false,
+            InvokeKind::Init => false,
         }
     }
 
-    #[tactic(auto, using(crate::proofs::JinvokeProofs::Picked::answer_made))]
+    #[tactic(auto, using(crate::proofs::JinvokeProofs::CallAnswers::answer_made))]
     fn answer_by(&self, key: CallKey, call: &CallUse) -> Answer
         ensures { (types : List TypeRef) → result ≡ Answers.answer_by self.now key (call_named self.now types call.now) }
     {
@@ -313,7 +313,7 @@ impl<'p> Known<'p> {
     }
 
     /// What a key's entry names.
-    #[tactic(auto, using(crate::proofs::JinvokeProofs::Picked::call_there))]
+    #[tactic(auto, using(crate::proofs::JinvokeProofs::CallAnswers::call_there))]
     fn call_at(&self, key: CallKey) -> Option<CallUse>
         ensures { IsCallAt self.now key result }
     {
@@ -326,8 +326,8 @@ impl<'p> Known<'p> {
 
     /// The class by which the entry at an index of the pool of a class names the method of such a call.
     #[inline]
-    #[tactic(auto, using(crate::proofs::JinvokeProofs::Picked::owner_named))]
-    pub fn owner_at(&self, class: u32, by: How, pool: u16) -> Option<ClassRef>
+    #[tactic(auto, using(crate::proofs::JinvokeProofs::CallAnswers::owner_named))]
+    pub fn owner_at(&self, class: u32, by: InvokeKind, pool: u16) -> Option<ClassRef>
         ensures { OwnerIs self.now class by pool result }
     {
         match self.call_at(CallKey {
@@ -358,7 +358,7 @@ impl<'p> Known<'p> {
     }
 
     /// What is known of a call, by its key.
-    #[tactic(auto, using(crate::proofs::JinvokeProofs::Picked::answered, crate::proofs::JinvokeProofs::Picked::unanswered))]
+    #[tactic(auto, using(crate::proofs::JinvokeProofs::CallAnswers::answered, crate::proofs::JinvokeProofs::CallAnswers::unanswered))]
     pub fn answer(&self, key: CallKey) -> Answer
         ensures { result ≡ Answers.answer self.now key }
     {

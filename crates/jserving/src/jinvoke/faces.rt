@@ -1,23 +1,23 @@
 ghost use Rattle.std.specs.Prelude.{◌≡◌, ℕ, Some, length, not};
-ghost use Rattle.jground.specs.jbase.First.{fault_if, or_else};
-ghost use Rattle.jrows.specs.jcalls.Calling.{FoundWithin, IsFound};
-ghost use Rattle.jrows.specs.jcalls.Marks.{marks_of};
-ghost use Rattle.jmodel.specs.jmachine.Calls.{no_access, reached as reached_target, unless, wrong_class};
-ghost use Rattle.jprogram.specs.declared.member.Selected.{Selected};
-ghost use Rattle.jprogram.specs.Classes.{Program};
+ghost use Rattle.jground.specs.jbase.FirstFaults.{fault_if, or_else};
+ghost use Rattle.jrows.specs.jcalls.MethodCalls.{FoundWithin, IsFound};
+ghost use Rattle.jrows.specs.jcalls.FrameMarks.{marks_of};
+ghost use Rattle.jsemantics.specs.jmachine.CallTargets.{no_access, reached as reached_target, unless, wrong_class};
+ghost use Rattle.jresolution.specs.declared.jprogram.member.Selected.{Selected};
+ghost use Rattle.jresolution.specs.jprogram.ProgramClasses.{Program};
 ghost use Rattle.jserving.specs.jinvoke.Answers.{chosen};
-ghost use Rattle.jserving.specs.jinvoke.Asked.{call_of, class_of};
-ghost use Rattle.jserving.specs.jinvoke.Faces.{FaceTarget, TargetAs, TargetWithin};
-ghost use Rattle.jserving.specs.jinvoke.Invoking.{IsMarked};
+ghost use Rattle.jserving.specs.jinvoke.CallQueries.{call_of, class_of};
+ghost use Rattle.jserving.specs.jinvoke.InterfaceCalls.{FaceTarget, TargetAs, TargetWithin};
+ghost use Rattle.jserving.specs.jinvoke.InvokeOutcomes.{IsMarked};
 
 use crate::jinvoke::answers::Calls;
 use crate::jinvoke::asked::Face;
 use crate::jinvoke::choosing::{Answer, number_of};
 use crate::jinvoke::invoking::found_by;
-use jheap::Heap;
 use jlib::Thrown;
-use jmodel::jstate::heap_laws;
-use jrows::jcalls::{Callee, Found};
+use jmemory::jheap::Heap;
+use jrows::jcalls::{Callee, Selection};
+use jruntime::jstate::heap_laws;
 
 /// What a call by an interface of the library comes to.
 #[derive(Clone, Copy)]
@@ -31,26 +31,26 @@ pub enum Target<M> {
 }
 
 /// What is selected is reached, by a thread that has all frames that it may have, or not.
-#[tactic(auto, using(crate::proofs::JinvokeProofs::Facing::facings))]
-fn reached<M: Copy>(what: Found<M>, full: bool) -> Target<M>
+#[tactic(auto, using(crate::proofs::JinvokeProofs::InterfaceCalls::facings))]
+fn reached<M: Copy>(what: Selection<M>, full: bool) -> Target<M>
     ensures target { (entry_of : ℕ → M) (p : Program) (s : Selected) → IsFound entry_of p what s → TargetAs entry_of p result (Some (reached_target full s)) }
     ensures within { (classes : ℕ) → FoundWithin classes what → TargetWithin classes result }
 {
     match what {
-        Found::Method(callee) => {
+        Selection::Method(callee) => {
             if full {
                 return Target::Fails(Thrown::StackOverflowError);
             }
             Target::Pushes(callee)
         }
-        Found::Lib(_) => Target::Stuck,
-        Found::Abstract => Target::Fails(Thrown::AbstractMethodError),
-        Found::Missing => Target::Fails(Thrown::AbstractMethodError),
+        Selection::Lib(_) => Target::Stuck,
+        Selection::Abstract => Target::Fails(Thrown::AbstractMethodError),
+        Selection::Missing => Target::Fails(Thrown::AbstractMethodError),
     }
 }
 
 /// What a call comes to of which this is known: the object's class has the interface, and what is selected is public.
-#[tactic(auto, using(crate::proofs::JinvokeProofs::Facing::wrong, crate::proofs::JinvokeProofs::Facing::hidden, crate::proofs::JinvokeProofs::Facing::reached_so, crate::proofs::JinvokeProofs::Facing::reached_within))]
+#[tactic(auto, using(crate::proofs::JinvokeProofs::InterfaceCalls::wrong, crate::proofs::JinvokeProofs::InterfaceCalls::hidden, crate::proofs::JinvokeProofs::InterfaceCalls::reached_so, crate::proofs::JinvokeProofs::InterfaceCalls::reached_within))]
 fn target_by<M: Copy>(answer: Answer, full: bool, marks: &[M]) -> Target<M>
     requires { IsMarked (length marks.now) answer.what }
     ensures target { (entry_of : ℕ → M) (p : Program) (s : Selected) → marks.now ≡ marks_of entry_of p → answer.what ≡ chosen p s
@@ -69,7 +69,7 @@ fn target_by<M: Copy>(answer: Answer, full: bool, marks: &[M]) -> Target<M>
 impl<'p> Calls<'p> {
     /// What a call comes to of a method of an interface of the library on the object of a number (JVMS 6.5: invokeinterface), by a thread
     /// that has all frames that it may have, or not. `marks` are what the frames of each class carry.
-    #[tactic(auto, using(crate::proofs::JinvokeProofs::Facing::face_marked, crate::proofs::JinvokeProofs::Facing::no_object, crate::proofs::JinvokeProofs::Facing::one_object))]
+    #[tactic(auto, using(crate::proofs::JinvokeProofs::InterfaceCalls::face_marked, crate::proofs::JinvokeProofs::InterfaceCalls::no_object, crate::proofs::JinvokeProofs::InterfaceCalls::one_object))]
     pub fn by_interface<M: Copy>(
         &mut self,
         heap: &Heap,

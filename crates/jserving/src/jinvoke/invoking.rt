@@ -1,23 +1,23 @@
 ghost use Rattle.std.specs.Prelude.{◌≡◌, ◌≤◌, IfOk, Some, length};
-ghost use Rattle.jrows.specs.jcalls.Calling.{CallLeaves, CallStands, IsByClass};
-ghost use Rattle.jrows.specs.jcalls.Marks.{Stand};
-ghost use Rattle.jmodel.specs.jstate.Framed.{all};
-ghost use Rattle.jmeaning.specs.declared.juses.meaning.How.TheVariants as how;
-ghost use Rattle.jserving.specs.jinvoke.Invoking.{CallWithin, answer_at, Invokes, IsMarked, marked};
+ghost use Rattle.jrows.specs.jcalls.MethodCalls.{CallLeaves, CallStands, IsByClass};
+ghost use Rattle.jrows.specs.jcalls.FrameMarks.{Stand};
+ghost use Rattle.jruntime.specs.jstate.FrameLists.{all};
+ghost use Rattle.jresolution.specs.declared.juses.meaning.InvokeKind.TheVariants as how;
+ghost use Rattle.jserving.specs.jinvoke.InvokeOutcomes.{CallWithin, answer_at, Invokes, IsMarked, marked};
 
 use crate::jinvoke::answers::Calls;
 use crate::jinvoke::choosing::{Answer, CallKey, Chosen, asked_of};
-use jheap::Heap;
-use jmeaning::juses::How;
-use jmodel::jstate::{Frames, heap_laws};
+use jmemory::jheap::Heap;
+use jresolution::juses::InvokeKind;
 use jrows::jcalls::{
-    Called, Callee, Found, Receiver, Room, call_by_interface, call_on, call_static, receiver_at,
+    Called, Callee, Receiver, Room, Selection, call_by_interface, call_on, call_static, receiver_at,
 };
+use jruntime::jstate::{Frames, heap_laws};
 use std::alloc::AllocError;
 
 /// What is selected, with what the frames of its class carry.
 #[inline]
-pub(crate) fn found_by<M: Copy>(what: Chosen, marks: &[M]) -> Found<M>
+pub(crate) fn found_by<M: Copy>(what: Chosen, marks: &[M]) -> Selection<M>
     requires { IsMarked (length marks.now) what }
     ensures { Some result ≡ marked marks.now what }
 {
@@ -27,16 +27,16 @@ pub(crate) fn found_by<M: Copy>(what: Chosen, marks: &[M]) -> Found<M>
             has_code,
             most,
             stack,
-        } => Found::Method(Callee {
+        } => Selection::Method(Callee {
             method,
             has_code,
             most,
             stack,
             mark: marks[method.class as usize],
         }),
-        Chosen::Lib(call) => Found::Lib(call),
-        Chosen::Abstract => Found::Abstract,
-        Chosen::Missing => Found::Missing,
+        Chosen::Lib(call) => Selection::Lib(call),
+        Chosen::Abstract => Selection::Abstract,
+        Chosen::Missing => Selection::Missing,
     }
 }
 
@@ -50,7 +50,14 @@ const NOTHING: Answer = Answer {
 impl<'p> Calls<'p> {
     /// What is known of a call on an object.
     #[inline(always)]
-    fn answer_on(&mut self, site: usize, class: u32, by: How, pool: u16, on: Receiver) -> Answer
+    fn answer_on(
+        &mut self,
+        site: usize,
+        class: u32,
+        by: InvokeKind,
+        pool: u16,
+        on: Receiver,
+    ) -> Answer
         ensures answer { result ≡ answer_at self.old class by pool on }
         ensures same { self.new ≡ self.old }
     {
@@ -71,7 +78,7 @@ impl<'p> Calls<'p> {
 
     /// A call of a static method.
     #[inline]
-    #[tactic(auto, using(crate::proofs::JinvokeProofs::Invoked::static_marked, crate::proofs::JinvokeProofs::Invoked::static_invoked, crate::proofs::JinvokeProofs::Invoked::stands_on))]
+    #[tactic(auto, using(crate::proofs::JinvokeProofs::InvokeOutcomes::static_marked, crate::proofs::JinvokeProofs::InvokeOutcomes::static_invoked, crate::proofs::JinvokeProofs::InvokeOutcomes::stands_on))]
     fn invoke_static<M: Copy>(
         &mut self,
         frames: &mut Frames<M>,
@@ -97,7 +104,7 @@ impl<'p> Calls<'p> {
             CallKey {
                 class,
                 pool,
-                by: How::Static,
+                by: InvokeKind::Static,
                 on: None,
             },
         );
@@ -107,13 +114,13 @@ impl<'p> Calls<'p> {
 
     /// A call on an object, whose class isn't asked for an interface.
     #[inline]
-    #[tactic(auto, using(crate::proofs::JinvokeProofs::Invoked::on_marked, crate::proofs::JinvokeProofs::Invoked::on_invoked, crate::proofs::JinvokeProofs::Invoked::stands_on))]
+    #[tactic(auto, using(crate::proofs::JinvokeProofs::InvokeOutcomes::on_marked, crate::proofs::JinvokeProofs::InvokeOutcomes::on_invoked, crate::proofs::JinvokeProofs::InvokeOutcomes::stands_on))]
     fn invoke_on<M: Copy>(
         &mut self,
         frames: &mut Frames<M>,
         heap: &Heap,
         site: usize,
-        by: How,
+        by: InvokeKind,
         pool: u16,
         count: usize,
         marks: &[M],
@@ -138,7 +145,7 @@ impl<'p> Calls<'p> {
 
     /// A call by an interface.
     #[inline]
-    #[tactic(auto, using(crate::proofs::JinvokeProofs::Invoked::on_marked, crate::proofs::JinvokeProofs::Invoked::face_invoked, crate::proofs::JinvokeProofs::Invoked::stands_on))]
+    #[tactic(auto, using(crate::proofs::JinvokeProofs::InvokeOutcomes::on_marked, crate::proofs::JinvokeProofs::InvokeOutcomes::face_invoked, crate::proofs::JinvokeProofs::InvokeOutcomes::stands_on))]
     fn invoke_by_interface<M: Copy>(
         &mut self,
         frames: &mut Frames<M>,
@@ -161,7 +168,7 @@ impl<'p> Calls<'p> {
         heap_laws();
         let class = frames.method().class;
         let on = receiver_at(frames, heap, count);
-        let answer = self.answer_on(site, class, How::Interface, pool, on);
+        let answer = self.answer_on(site, class, InvokeKind::Interface, pool, on);
         let what = found_by(answer.what, marks);
         call_by_interface(frames, on, count, what, answer.has, answer.hidden, room)
     }
@@ -175,7 +182,7 @@ impl<'p> Calls<'p> {
         frames: &mut Frames<M>,
         heap: &Heap,
         site: usize,
-        by: How,
+        by: InvokeKind,
         pool: u16,
         count: usize,
         marks: &[M],
@@ -191,31 +198,40 @@ impl<'p> Calls<'p> {
         ensures same { self.new ≡ self.old }
     {
         match by {
-            How::Static => self.invoke_static(frames, heap, site, pool, count, marks, room),
-            How::Interface => self.invoke_by_interface(
+            InvokeKind::Static => self.invoke_static(frames, heap, site, pool, count, marks, room),
+            InvokeKind::Interface => self.invoke_by_interface(
                 frames, heap, site, pool, count, marks, room,
             ),
-            How::Virtual => self.invoke_on(
+            InvokeKind::Virtual => self.invoke_on(
                 frames,
                 heap,
                 site,
-                How::Virtual,
+                InvokeKind::Virtual,
                 pool,
                 count,
                 marks,
                 room,
             ),
-            How::Special => self.invoke_on(
+            InvokeKind::Special => self.invoke_on(
                 frames,
                 heap,
                 site,
-                How::Special,
+                InvokeKind::Special,
                 pool,
                 count,
                 marks,
                 room,
             ),
-            How::Init => self.invoke_on(frames, heap, site, How::Init, pool, count, marks, room),
+            InvokeKind::Init => self.invoke_on(
+                frames,
+                heap,
+                site,
+                InvokeKind::Init,
+                pool,
+                count,
+                marks,
+                room,
+            ),
         }
     }
 }

@@ -1,11 +1,11 @@
 ghost use Rattle.std.specs.Prelude.{◌≡◌, IfSome};
-ghost use Rattle.jprogram.specs.Classes.{Program};
+ghost use Rattle.jresolution.specs.jprogram.ProgramClasses.{Program};
 ghost use Rattle.jserving.specs.jinvoke.Answers.{OwnerIs};
-ghost use Rattle.jserving.specs.jinvoke.Sites.{Remember};
+ghost use Rattle.jserving.specs.jinvoke.CallSiteCache.{Remember};
 
 use crate::jinvoke::choosing::{Answer, Beside, CallKey};
-use jmeaning::juses::How;
-use jprogram::ClassRef;
+use jresolution::jprogram::ClassRef;
+use jresolution::juses::InvokeKind;
 use std::alloc::Global;
 use std::marker::Model;
 
@@ -35,7 +35,7 @@ impl Model for Sites {
 
 impl Sites {
     /// Nothing was asked yet. It takes no memory.
-    #[tactic(auto, unfolding(crate::specs::jinvoke::Sites::Remember))]
+    #[tactic(auto, unfolding(crate::specs::jinvoke::CallSiteCache::Remember))]
     pub(crate) fn new(alloc: Global) -> Sites
         // Whatever the program and the function are, what is remembered is right.
         ensures { (p : Program) (f : CallKey → Answer) → Remember p f result }
@@ -47,7 +47,7 @@ impl Sites {
     }
 
     /// The answer for a key, if it was the last one at a site.
-    #[tactic(auto, unfolding(crate::specs::jinvoke::Sites::Remember))]
+    #[tactic(auto, unfolding(crate::specs::jinvoke::CallSiteCache::Remember))]
     #[inline]
     pub(crate) fn get(&self, site: usize, key: CallKey) -> Option<Answer>
         // Where the answers of a function are remembered, this is one.
@@ -69,13 +69,13 @@ impl Sites {
     }
 
     /// The class by which an entry names the method of such a call, if that was the last one at a site.
-    #[tactic(auto, unfolding(crate::specs::jinvoke::Sites::Remember))]
+    #[tactic(auto, unfolding(crate::specs::jinvoke::CallSiteCache::Remember))]
     #[inline]
     pub(crate) fn owner(
         &self,
         site: usize,
         class: u32,
-        by: How,
+        by: InvokeKind,
         pool: u16,
     ) -> Option<Option<ClassRef>>
         // Where what is remembered is right of a program, so is this class.
@@ -110,7 +110,7 @@ impl Sites {
     }
 
     /// Puts a place for a site behind the others, where there is memory for it.
-    #[tactic(auto, unfolding(crate::specs::jinvoke::Sites::Remember))]
+    #[tactic(auto, unfolding(crate::specs::jinvoke::CallSiteCache::Remember))]
     fn add(&mut self, site: usize, key: CallKey, beside: Beside)
         // Where what is remembered is right and this is, what is remembered is right again.
         ensures { (p : Program) (f : CallKey → Answer) → Remember p f self.old
@@ -145,7 +145,7 @@ impl Sites {
     }
 
     /// Remembers what stands beside a key, and forgets what stood there before at the site.
-    #[tactic(auto, unfolding(crate::specs::jinvoke::Sites::Remember))]
+    #[tactic(auto, unfolding(crate::specs::jinvoke::CallSiteCache::Remember))]
     pub(crate) fn put(&mut self, site: usize, key: CallKey, beside: Beside)
         // Where what is remembered is right and this is, what is remembered is right again.
         ensures { (p : Program) (f : CallKey → Answer) → Remember p f self.old

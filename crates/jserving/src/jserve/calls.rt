@@ -1,25 +1,25 @@
 ghost use Rattle.std.specs.Prelude.{◌≡◌, ◌≤◌, ◌+◌, ℕ, length, slice_get, true};
-ghost use Rattle.jheap.specs.Heaps.{kind_at};
-ghost use Rattle.jmodel.specs.jmachine.Store.{Store};
-ghost use Rattle.jmeaning.specs.juses.Meanings.{CallMeaning};
-ghost use Rattle.jmeaning.specs.declared.juses.meaning.How.TheVariants as how;
-ghost use Rattle.jserving.specs.jserve.Calls;
-ghost use Rattle.jserving.specs.jserve.Calls.{CallServes, IsCall, begins_in, count_of};
-ghost use Rattle.jserving.specs.jserve.Valued.{IsStore};
+ghost use Rattle.jmemory.specs.jheap.Heaps.{kind_at};
+ghost use Rattle.jsemantics.specs.jmachine.Store.{Store};
+ghost use Rattle.jresolution.specs.juses.InstructionMeanings.{CallMeaning};
+ghost use Rattle.jresolution.specs.declared.juses.meaning.InvokeKind.TheVariants as how;
+ghost use Rattle.jserving.specs.jserve.CallOperandChecks;
+ghost use Rattle.jserving.specs.jserve.CallOperandChecks.{CallServes, IsCall, begins_in, count_of};
+ghost use Rattle.jserving.specs.jserve.ValueTypes.{IsStore};
 
 use crate::jfits::{Ancestors, fits};
 use crate::jserve::serving::{object_serves, params_serve};
 use crate::jserve::values::{Objects, kind_type};
-use jground::jops::Value;
-use jmeaning::juses::{How, TypeRef};
-use jmodel::jstate::{Frames, heap_laws};
-use jprogram::ClassRef;
+use jresolution::jprogram::ClassRef;
+use jresolution::juses::{InvokeKind, TypeRef};
+use jruntime::jstate::{Frames, heap_laws};
+use jvalues::jops::Value;
 
 /// Whether an `<init>` of a class may be called on the object of a number, which may hold nothing yet.
 #[inline]
-#[tactic(auto, unfolding(jmodel::specs::jmachine::World::world))]
+#[tactic(auto, unfolding(jsemantics::specs::jmachine::World::world))]
 fn begins_on(a: &Ancestors<'_>, x: &Objects<'_>, owner: ClassRef, o: u32) -> bool
-    ensures { result ≡ Calls.begins_as a.now x.now owner (kind_at x.now.heap.now o) }
+    ensures { result ≡ CallOperandChecks.begins_as a.now x.now owner (kind_at x.now.heap.now o) }
 {
     match x.heap.found(o) {
         None => false,
@@ -29,7 +29,7 @@ fn begins_on(a: &Ancestors<'_>, x: &Objects<'_>, owner: ClassRef, o: u32) -> boo
 
 /// Whether an `<init>` of a class may be called on a value.
 #[inline]
-#[tactic(auto, using(crate::proofs::JserveProofs::Called::on_null, crate::proofs::JserveProofs::Called::on_object))]
+#[tactic(auto, using(crate::proofs::JserveProofs::CallOperands::on_null, crate::proofs::JserveProofs::CallOperands::on_object))]
 fn begins(a: &Ancestors<'_>, x: &Objects<'_>, owner: ClassRef, value: Value) -> bool
     ensures { result ≡ begins_in a.now x.now owner value }
 {
@@ -55,7 +55,7 @@ fn begins_at<M: Copy>(
     owner: ClassRef,
     i: usize,
 ) -> bool
-    ensures { result ≡ Calls.begins_at a.now x.now owner (slice_get frames.now.newest.operands i) }
+    ensures { result ≡ CallOperandChecks.begins_at a.now x.now owner (slice_get frames.now.newest.operands i) }
 {
     if i >= frames.count() {
         return false;
@@ -90,7 +90,7 @@ pub fn call_serves<M: Copy>(
     a: &Ancestors<'_>,
     x: &Objects<'_>,
     frames: &Frames<M>,
-    by: How,
+    by: InvokeKind,
     owner: ClassRef,
     params: &[TypeRef],
 ) -> bool
@@ -100,13 +100,13 @@ pub fn call_serves<M: Copy>(
 {
     heap_laws();
     match by {
-        How::Static => params_serve(a, x, frames, params),
-        How::Virtual => object_serves(a, x, frames, params, TypeRef::Object(owner)),
-        How::Interface => object_serves(a, x, frames, params, TypeRef::Object(owner)),
-        How::Special => {
+        InvokeKind::Static => params_serve(a, x, frames, params),
+        InvokeKind::Virtual => object_serves(a, x, frames, params, TypeRef::Object(owner)),
+        InvokeKind::Interface => object_serves(a, x, frames, params, TypeRef::Object(owner)),
+        InvokeKind::Special => {
             let this = ClassRef::User(frames.method().class);
             object_serves(a, x, frames, params, TypeRef::Object(this))
         }
-        How::Init => init_serves(a, x, frames, owner, params),
+        InvokeKind::Init => init_serves(a, x, frames, owner, params),
     }
 }

@@ -1,43 +1,43 @@
 ghost use Rattle.std.specs.Prelude.{◌≡◌, ◌&&◌, ℕ, Bool, is_some, option_map, slice_get};
 ghost use Rattle.jparts.specs.declared.jcode.names.CastOp.{CastOp};
-ghost use Rattle.jparts.specs.jcode.Forms.{compared};
-ghost use Rattle.jmodel.specs.jmachine.Making;
-ghost use Rattle.jmodel.specs.jmachine.Operands.{taken, type_of};
-ghost use Rattle.jmodel.specs.jmachine.Sites.{Site};
-ghost use Rattle.jmodel.specs.jmachine.Store.{Store};
-ghost use Rattle.jmodel.specs.jmachine.World.{world};
-ghost use Rattle.jground.specs.declared.jnames.kinds.Kind.TheVariants as wanted;
-ghost use Rattle.jrows.specs.jobjs.Serving.{IsOne, Serve};
-ghost use Rattle.jprogram.specs.declared.member.Member.{Member};
-ghost use Rattle.jprogram.specs.Classes.{Program};
-ghost use Rattle.jmeaning.specs.jrule.Arrays;
-ghost use Rattle.jmeaning.specs.jrule.Effects;
-ghost use Rattle.jmeaning.specs.jrule.Effects.{Of, of_kinds};
+ghost use Rattle.jparts.specs.jcode.InstructionForms.{compared};
+ghost use Rattle.jsemantics.specs.jmachine.ObjectInstructions;
+ghost use Rattle.jsemantics.specs.jmachine.TakenOperands.{taken, type_of};
+ghost use Rattle.jsemantics.specs.jmachine.InstructionSites.{Site};
+ghost use Rattle.jsemantics.specs.jmachine.Store.{Store};
+ghost use Rattle.jsemantics.specs.jmachine.World.{world};
+ghost use Rattle.jvalues.specs.declared.jnames.kinds.Kind.TheVariants as wanted;
+ghost use Rattle.jrows.specs.jobjs.EntryOperands.{IsOne, Serve};
+ghost use Rattle.jresolution.specs.declared.jprogram.member.Member.{Member};
+ghost use Rattle.jresolution.specs.jprogram.ProgramClasses.{Program};
+ghost use Rattle.jtyping.specs.jrule.ArrayRule;
+ghost use Rattle.jtyping.specs.jrule.StackEffects;
+ghost use Rattle.jtyping.specs.jrule.StackEffects.{Of, of_kinds};
 ghost use Rattle.jtypes.specs.declared.vtype.VType.{VType};
-ghost use Rattle.jmeaning.specs.juses.Meanings as meanings;
-ghost use Rattle.jmeaning.specs.juses.Types.{array_named, element_named, named};
-ghost use Rattle.jtypes.specs.Described;
-ghost use Rattle.jserving.specs.jserve.Served.{ServeThrown, one_serves, serves_in};
-ghost use Rattle.jserving.specs.jserve.Valued.{IsStore, type_in};
-ghost use Rattle.jmodel.specs.jmachine.Making.{is_one};
-ghost use Rattle.jmeaning.specs.jrule.Arrays.{component};
+ghost use Rattle.jresolution.specs.juses.InstructionMeanings as meanings;
+ghost use Rattle.jresolution.specs.juses.InternedTypes.{array_named, element_named, named};
+ghost use Rattle.jtypes.specs.DescriptorElements;
+ghost use Rattle.jserving.specs.jserve.OperandChecks.{ServeThrown, one_serves, serves_in};
+ghost use Rattle.jserving.specs.jserve.ValueTypes.{IsStore, type_in};
+ghost use Rattle.jsemantics.specs.jmachine.ObjectInstructions.{is_one};
+ghost use Rattle.jtyping.specs.jrule.ArrayRule.{component};
 
 use crate::jfits::{Ancestors, is_instance};
 use crate::jserve::serving::serves_at;
 use crate::jserve::values::{Objects, value_type};
-use jground::jops::Value;
 use jlib::{LibClass, Thrown};
-use jmeaning::juses::{ArrayRef, ElementRef, TypeRef};
-use jmodel::jstate::{Frames, heap_laws};
 use jparts::jcode::RefTest;
-use jprogram::ClassRef;
+use jresolution::jprogram::ClassRef;
+use jresolution::juses::{ArrayRef, ElementRef, TypeRef};
+use jruntime::jstate::{Frames, heap_laws};
+use jvalues::jops::Value;
 
 // ---- references
 
 /// Whether a type is a reference's.
 #[inline]
 fn is_ref(t: TypeRef) -> bool
-    ensures { (p : Program) → result ≡ Effects.is_ref (named p t) }
+    ensures { (p : Program) → result ≡ StackEffects.is_ref (named p t) }
 {
     match t {
         TypeRef::Null => true,
@@ -49,7 +49,7 @@ fn is_ref(t: TypeRef) -> bool
 
 /// Whether a value is null, or names an object that may be used.
 #[inline]
-#[tactic(auto, using(crate::proofs::JserveProofs::Casting::no_ref, crate::proofs::JserveProofs::Casting::ref_typed))]
+#[tactic(auto, using(crate::proofs::JserveProofs::ReferenceTypes::no_ref, crate::proofs::JserveProofs::ReferenceTypes::ref_typed))]
 fn is_reference(x: &Objects<'_>, value: Value) -> bool
     ensures { (p : Program) → result ≡ serves_in p x.now (Of wanted.Ref) value }
 {
@@ -120,9 +120,9 @@ pub fn thrown_serves<M: Copy>(a: &Ancestors<'_>, x: &Objects<'_>, frames: &Frame
 
 /// Whether what a value names is one of a type.
 #[inline]
-#[tactic(auto, using(crate::proofs::JserveProofs::Casting::none_is, crate::proofs::JserveProofs::Casting::some_is), unfolding(jmodel::specs::jmachine::World::world))]
+#[tactic(auto, using(crate::proofs::JserveProofs::ReferenceTypes::none_is, crate::proofs::JserveProofs::ReferenceTypes::some_is), unfolding(jsemantics::specs::jmachine::World::world))]
 fn value_is(a: &Ancestors<'_>, x: &Objects<'_>, value: Value, t: TypeRef) -> bool
-    ensures { result ≡ Making.is_one (world a.now) (named a.now t) (option_map (named a.now) (type_in x.now value)) }
+    ensures { result ≡ ObjectInstructions.is_one (world a.now) (named a.now t) (option_map (named a.now) (type_in x.now value)) }
 {
     match value_type(x, value) {
         None => false,
@@ -147,7 +147,7 @@ pub fn is_one<M: Copy>(a: &Ancestors<'_>, x: &Objects<'_>, frames: &Frames<M>, t
 /// The type of an element outside of arrays.
 #[inline]
 fn alone(x: ElementRef) -> TypeRef
-    ensures { (p : Program) → named p result ≡ Described.alone (element_named p x) }
+    ensures { (p : Program) → named p result ≡ DescriptorElements.alone (element_named p x) }
 {
     match x {
         ElementRef::Class(c) => TypeRef::Object(c),
@@ -162,9 +162,9 @@ fn alone(x: ElementRef) -> TypeRef
 
 /// What an array holds.
 #[inline]
-#[tactic(auto, using(crate::proofs::JserveProofs::Casting::one_dimension, crate::proofs::JserveProofs::Casting::more_dimensions))]
+#[tactic(auto, using(crate::proofs::JserveProofs::ReferenceTypes::one_dimension, crate::proofs::JserveProofs::ReferenceTypes::more_dimensions))]
 fn component(array: ArrayRef) -> TypeRef
-    ensures { (p : Program) → named p result ≡ Arrays.component (array_named p array) }
+    ensures { (p : Program) → named p result ≡ ArrayRule.component (array_named p array) }
 {
     if array.depth <= 1 {
         return alone(array.element);

@@ -1,24 +1,24 @@
 ghost use Rattle.std.specs.Prelude.{◌≡◌, ℕ, Bool, slice_get};
 ghost use Rattle.jparts.specs.declared.jcode.names.FieldOp.TheVariants as ops;
-ghost use Rattle.jmodel.specs.jmachine.Sites.{Site};
-ghost use Rattle.jmodel.specs.jmachine.Store.{Store};
-ghost use Rattle.jmodel.specs.jmachine.World.{world};
-ghost use Rattle.jrows.specs.jobjs.Serving.{Serve};
-ghost use Rattle.jprogram.specs.declared.member.Member.{Member};
-ghost use Rattle.jmeaning.specs.jrule.Uses.{written};
-ghost use Rattle.jmeaning.specs.juses.Meanings as meanings;
-ghost use Rattle.jmeaning.specs.juses.Meanings.{FieldMeaning};
-ghost use Rattle.jmeaning.specs.juses.Types.{class_named, named};
-ghost use Rattle.jserving.specs.jserve.Served.{one_serves, serves_in};
-ghost use Rattle.jserving.specs.jserve.Valued.{IsStore};
+ghost use Rattle.jsemantics.specs.jmachine.InstructionSites.{Site};
+ghost use Rattle.jsemantics.specs.jmachine.Store.{Store};
+ghost use Rattle.jsemantics.specs.jmachine.World.{world};
+ghost use Rattle.jrows.specs.jobjs.EntryOperands.{Serve};
+ghost use Rattle.jresolution.specs.declared.jprogram.member.Member.{Member};
+ghost use Rattle.jtyping.specs.jrule.PoolEffects.{written};
+ghost use Rattle.jresolution.specs.juses.InstructionMeanings as meanings;
+ghost use Rattle.jresolution.specs.juses.InstructionMeanings.{FieldMeaning};
+ghost use Rattle.jresolution.specs.juses.InternedTypes.{class_named, named};
+ghost use Rattle.jserving.specs.jserve.OperandChecks.{one_serves, serves_in};
+ghost use Rattle.jserving.specs.jserve.ValueTypes.{IsStore};
 
 use crate::jfits::{Ancestors, fits};
 use crate::jserve::serving::{serves, serves_at};
 use crate::jserve::values::{Objects, value_type};
-use jground::jops::Value;
-use jmeaning::juses::TypeRef;
-use jmodel::jstate::{Frames, heap_laws};
-use jprogram::ClassRef;
+use jresolution::jprogram::ClassRef;
+use jresolution::juses::TypeRef;
+use jruntime::jstate::{Frames, heap_laws};
+use jvalues::jops::Value;
 
 /// Whether the operand of getfield serves, by the class by which the field is named.
 #[inline]
@@ -53,7 +53,7 @@ pub fn put_static_serves<M: Copy>(
 /// Whether a value serves as the object whose field is written. An object of the class `this` does, too, where this is one of its own fields
 /// and an `<init>` writes it.
 #[inline]
-#[tactic(auto, using(crate::proofs::JserveProofs::Fielding::not_own, crate::proofs::JserveProofs::Fielding::no_type, crate::proofs::JserveProofs::Fielding::own_type), unfolding(jmodel::specs::jmachine::World::world))]
+#[tactic(auto, using(crate::proofs::JserveProofs::FieldOperands::not_own, crate::proofs::JserveProofs::FieldOperands::no_type, crate::proofs::JserveProofs::FieldOperands::own_type), unfolding(jsemantics::specs::jmachine::World::world))]
 fn written_serves(
     a: &Ancestors<'_>,
     x: &Objects<'_>,

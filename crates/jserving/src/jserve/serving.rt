@@ -1,17 +1,17 @@
 ghost use Rattle.std.specs.Prelude.{◌≡◌, ◌∷◌, ◌++◌, [], map, slice_get};
-ghost use Rattle.jmeaning.specs.jrule.Effects.{Fits};
-ghost use Rattle.jmeaning.specs.juses.Types.{named};
-ghost use Rattle.jserving.specs.jserve.Served.{all_serve, one_serves, serves_in};
+ghost use Rattle.jtyping.specs.jrule.StackEffects.{Fits};
+ghost use Rattle.jresolution.specs.juses.InternedTypes.{named};
+ghost use Rattle.jserving.specs.jserve.OperandChecks.{all_serve, one_serves, serves_in};
 
 use crate::jfits::{Ancestors, fits};
 use crate::jserve::values::{Objects, value_type};
-use jground::jops::Value;
-use jmeaning::juses::TypeRef;
-use jmodel::jstate::Frames;
+use jresolution::juses::TypeRef;
+use jruntime::jstate::Frames;
+use jvalues::jops::Value;
 
 /// Whether a value serves where one of a type is wanted.
 #[inline]
-#[tactic(auto, using(crate::proofs::JserveProofs::Wanting::no_type, crate::proofs::JserveProofs::Wanting::of_type), unfolding(jmodel::specs::jmachine::World::world))]
+#[tactic(auto, using(crate::proofs::JserveProofs::FittingOperands::no_type, crate::proofs::JserveProofs::FittingOperands::of_type), unfolding(jsemantics::specs::jmachine::World::world))]
 pub(crate) fn serves(a: &Ancestors<'_>, x: &Objects<'_>, want: TypeRef, value: Value) -> bool
     ensures { result ≡ serves_in a.now x.now (Fits (named a.now want)) value }
 {

@@ -1,32 +1,32 @@
 ghost use Rattle.std.specs.Prelude.{◌≡◌, ◌<◌, ℕ, IfSome, Some, length, slice_get};
 ghost use Rattle.jparts.specs.declared.jcode.names.Element.TheVariants as items;
-ghost use Rattle.jheap.specs.Heaps.{kind_at};
-ghost use Rattle.jmodel.specs.jmachine.Sites.{Site};
-ghost use Rattle.jmodel.specs.jmachine.Store.{Store};
-ghost use Rattle.jmodel.specs.jmachine.World.{world};
-ghost use Rattle.jground.specs.declared.jnames.kinds.Kind.TheVariants as wanted;
-ghost use Rattle.jrows.specs.jobjs.Stored.{MayStore, ServeStore, held_seen};
-ghost use Rattle.jprogram.specs.Classes.{Program};
-ghost use Rattle.jmeaning.specs.jrule.Effects;
-ghost use Rattle.jmeaning.specs.jrule.Effects.{Holds, Of};
-ghost use Rattle.jmeaning.specs.juses.Types.{array_named, named};
+ghost use Rattle.jmemory.specs.jheap.Heaps.{kind_at};
+ghost use Rattle.jsemantics.specs.jmachine.InstructionSites.{Site};
+ghost use Rattle.jsemantics.specs.jmachine.Store.{Store};
+ghost use Rattle.jsemantics.specs.jmachine.World.{world};
+ghost use Rattle.jvalues.specs.declared.jnames.kinds.Kind.TheVariants as wanted;
+ghost use Rattle.jrows.specs.jobjs.StoredReferences.{MayStore, ServeStore, held_seen};
+ghost use Rattle.jresolution.specs.jprogram.ProgramClasses.{Program};
+ghost use Rattle.jtyping.specs.jrule.StackEffects;
+ghost use Rattle.jtyping.specs.jrule.StackEffects.{Holds, Of};
+ghost use Rattle.jresolution.specs.juses.InternedTypes.{array_named, named};
 ghost use Rattle.jserving.specs.declared.jserve.values.Objects.{Objects as ObjectsOf};
-ghost use Rattle.jserving.specs.jserve.Served.{one_serves, serves_in};
-ghost use Rattle.jserving.specs.jserve.Storing.{number_found, number_held};
-ghost use Rattle.jserving.specs.jserve.Valued.{IsStore};
+ghost use Rattle.jserving.specs.jserve.OperandChecks.{one_serves, serves_in};
+ghost use Rattle.jserving.specs.jserve.StoreTargets.{number_found, number_held};
+ghost use Rattle.jserving.specs.jserve.ValueTypes.{IsStore};
 
 use crate::jfits::Ancestors;
 use crate::jserve::casts::{is_stored, ref_at};
 use crate::jserve::values::{Objects, value_type};
-use jground::jops::Value;
-use jheap::{Heap, Kind};
-use jmeaning::juses::{ArrayRef, ElementRef, TypeRef};
-use jmodel::jstate::{Frames, array_type, heap_laws};
+use jmemory::jheap::{Heap, Kind};
+use jresolution::juses::{ArrayRef, ElementRef, TypeRef};
+use jruntime::jstate::{Frames, array_type, heap_laws};
+use jvalues::jops::Value;
 
 // ---- whether the operands serve
 
 #[inline]
-#[tactic(auto, using(crate::proofs::JserveProofs::Stored::ref_is_no_int))]
+#[tactic(auto, using(crate::proofs::JserveProofs::ArrayStores::ref_is_no_int))]
 fn is_int(value: Value) -> bool
     ensures { (p : Program) (x : ObjectsOf) → result ≡ serves_in p x (Of wanted.Int) value }
 {
@@ -51,9 +51,9 @@ fn int_at<M: Copy>(frames: &Frames<M>, i: usize) -> bool
 
 /// Whether an array of a type holds references.
 #[inline]
-#[tactic(auto, using(crate::proofs::JserveProofs::Stored::many_held, crate::proofs::JserveProofs::Stored::one_held))]
+#[tactic(auto, using(crate::proofs::JserveProofs::ArrayStores::many_held, crate::proofs::JserveProofs::ArrayStores::one_held))]
 fn has_refs(array: ArrayRef) -> bool
-    ensures { (p : Program) → result ≡ Effects.same_items items.Ref (Effects.items_of (array_named p array)) }
+    ensures { (p : Program) → result ≡ StackEffects.same_items items.Ref (StackEffects.items_of (array_named p array)) }
 {
     if array.depth > 1 {
         return true;
@@ -64,7 +64,7 @@ fn has_refs(array: ArrayRef) -> bool
 /// Whether a type is that of null, or of an array of references.
 #[inline]
 fn holds_refs(t: TypeRef) -> bool
-    ensures { (p : Program) → result ≡ Effects.holds items.Ref (named p t) }
+    ensures { (p : Program) → result ≡ StackEffects.holds items.Ref (named p t) }
 {
     match t {
         TypeRef::Null => true,
@@ -75,7 +75,7 @@ fn holds_refs(t: TypeRef) -> bool
 
 /// Whether a value is null, or names an array of references.
 #[inline]
-#[tactic(auto, using(crate::proofs::JserveProofs::Stored::no_refs, crate::proofs::JserveProofs::Stored::refs_typed))]
+#[tactic(auto, using(crate::proofs::JserveProofs::ArrayStores::no_refs, crate::proofs::JserveProofs::ArrayStores::refs_typed))]
 fn is_refs(x: &Objects<'_>, value: Value) -> bool
     ensures { (p : Program) → result ≡ serves_in p x.now (Holds items.Ref) value }
 {
@@ -129,7 +129,7 @@ fn number_of(heap: &Heap, o: u32) -> Option<u32>
 
 /// The heap's number for the type of the array that stands below an index and what is stored.
 #[inline]
-#[tactic(auto, using(crate::proofs::JserveProofs::Stored::number_seen))]
+#[tactic(auto, using(crate::proofs::JserveProofs::ArrayStores::number_seen))]
 fn number_at<M: Copy>(heap: &Heap, frames: &Frames<M>) -> Option<u32>
     ensures number { result ≡ number_held (held_seen heap.now (slice_get frames.now.newest.operands 2)) }
     ensures there { IfSome result (λ n. 2 < length frames.now.newest.operands) }

@@ -1,7 +1,7 @@
-ghost use Rattle.jstepping.specs.jcore.Left.{IsNumbered, LeftIsBehind, LeftIsMachine, RaisedIsMachine, StaysOn};
+ghost use Rattle.jstepping.specs.jcore.MidStepMachines.{IsNumbered, LeftIsBehind, LeftIsMachine, RaisedIsMachine, StaysOn};
 
-use jmodel::jguests::guest_laws;
-use jserving::jshapes::alike_laws;
+use jruntime::jguests::guest_laws;
+use jserving::jcells::alike_laws;
 
 /// The laws of a machine in the midst of a step: what holds of it, and what it stands for. It does nothing; its contract is the laws.
 pub fn machine_laws<M>()

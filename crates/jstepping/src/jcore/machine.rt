@@ -1,22 +1,22 @@
 ghost use Rattle.std.specs.Prelude.{◌≡◌, reverse};
-ghost use Rattle.jmodel.specs.jmachine.Asked.{carried};
-ghost use Rattle.jstepping.specs.jcore.Machines.{state_of};
+ghost use Rattle.jsemantics.specs.jmachine.AccessQueries.{carried};
+ghost use Rattle.jstepping.specs.jcore.MachineInvariants.{state_of};
 
-use crate::jstep::Fixed;
+use crate::jstep::RunTables;
 use jground::jbase::Seq;
-use jheap::Heap;
 use jlib::Side;
 use jlibcalls::jconstants::Constants;
-use jmodel::jguests::Guests;
-use jmodel::jmachine::Plan;
+use jmemory::jheap::Heap;
 use jperm::Permission;
+use jruntime::jguests::Guests;
+use jsemantics::jmachine::Plan;
 use jserving::jinvoke::Calls;
 
 /// A machine by numbers. `M` is what a frame carries.
 #[derive(Drop)]
 pub struct Machine<'a, 'p, M> {
     /// What stands as long as the program runs.
-    pub fixed: Fixed<'a, 'p, M>,
+    pub fixed: RunTables<'a, 'p, M>,
     /// What the run is given besides its program.
     pub plan: &'a Plan,
     /// The library that the program is written for.

@@ -1,21 +1,21 @@
 ghost use Rattle.std.specs.Prelude.{IfOk, OnOk};
-ghost use Rattle.jmodel.specs.jguests.Guested.{Lives};
-ghost use Rattle.jstepping.specs.jcore.Comings.{GoesOn};
-ghost use Rattle.jstepping.specs.jcore.Left.{RunsStanding};
-ghost use Rattle.jstepping.specs.jcore.Machines.{IsMachine, StaysFixed};
-ghost use Rattle.jstepping.specs.jcore.Raising.{RaisesIn, ThrowsIn};
+ghost use Rattle.jruntime.specs.jguests.GuestThreads.{Lives};
+ghost use Rattle.jstepping.specs.jcore.MachineOutcomes.{GoesOn};
+ghost use Rattle.jstepping.specs.jcore.MidStepMachines.{RunsStanding};
+ghost use Rattle.jstepping.specs.jcore.MachineInvariants.{IsMachine, StaysFixed};
+ghost use Rattle.jstepping.specs.jcore.RaiseOutcomes.{RaisesIn, ThrowsIn};
 
 use crate::jcore::laws::machine_laws;
 use crate::jcore::machine::Machine;
 use crate::jcore::settling::settle_raised;
 use jground::jbase::Seq;
 use jlib::{LibClass, Thrown};
-use jmodel::jguests::guest_laws;
-use jmodel::jrun::Came;
-use jmodel::jstate::thrown_number;
-use jprogram::ClassRef;
-use jrights::jtrace::Event;
+use joutput::jtrace::Event;
+use jresolution::jprogram::ClassRef;
 use jrows::jcalls::Raised;
+use jruntime::jguests::guest_laws;
+use jruntime::jrun::Came;
+use jruntime::jstate::thrown_number;
 use jserving::jinvoke::{ThrownAs, told_law};
 use std::alloc::{AllocError, Global};
 

@@ -1,25 +1,25 @@
 ghost use Rattle.std.specs.Prelude.{◌≡◌, ◌∷◌, ◌++◌, [], IfOk, OnOk};
-ghost use Rattle.jrights.specs.declared.jtrace.event.End.TheVariants.{HeapFull};
-ghost use Rattle.jrights.specs.declared.jtrace.event.Event.TheVariants.{Throw, Uncaught};
-ghost use Rattle.jmodel.specs.jmachine.Unwinding.{told_name as name_told};
-ghost use Rattle.jmodel.specs.declared.jrun.came.Came.TheVariants as stepped;
-ghost use Rattle.jstepping.specs.jstep.Stepping.{type_of};
-ghost use Rattle.jmodel.specs.jguests.Guested.{Lives};
-ghost use Rattle.jstepping.specs.jcore.Comings.{EndsThread, GoesOn, HandledStand, IsOwn, LeftStand, Settles, SettlesRaised};
-ghost use Rattle.jstepping.specs.jcore.Machines.{IsMachine, StaysFixed};
+ghost use Rattle.joutput.specs.declared.jtrace.event.End.TheVariants.{HeapFull};
+ghost use Rattle.joutput.specs.declared.jtrace.event.Event.TheVariants.{Throw, Uncaught};
+ghost use Rattle.jsemantics.specs.jmachine.Unwinding.{told_name as name_told};
+ghost use Rattle.jruntime.specs.declared.jrun.came.Came.TheVariants as stepped;
+ghost use Rattle.jstepping.specs.jstep.StepRelation.{type_of};
+ghost use Rattle.jruntime.specs.jguests.GuestThreads.{Lives};
+ghost use Rattle.jstepping.specs.jcore.MachineOutcomes.{EndsThread, GoesOn, HandledStand, IsOwn, LeftStand, Settles, SettlesRaised};
+ghost use Rattle.jstepping.specs.jcore.MachineInvariants.{IsMachine, StaysFixed};
 
 use crate::jcore::machine::Machine;
 use crate::jcore::telling::told_name;
 use jground::jbase::Seq;
-use jmodel::jguests::Turned;
-use jmodel::jrun::Came;
-use jprogram::ClassRef;
-use jrights::jtrace::{End, Event};
+use joutput::jtrace::{End, Event};
+use jresolution::jprogram::ClassRef;
 use jrows::jcalls::Raised;
+use jruntime::jguests::Turned;
+use jruntime::jrun::Came;
 use std::alloc::{AllocError, Global};
 
 /// Ends the running thread, by an exception or not, behind these events, and gives another its turn.
-#[tactic(auto, using(crate::proofs::JcoreProofs::Settled::ends_goes, crate::proofs::JcoreProofs::Settled::ends_over))]
+#[tactic(auto, using(crate::proofs::JcoreProofs::StepOutcomes::ends_goes, crate::proofs::JcoreProofs::StepOutcomes::ends_over))]
 pub fn end_thread<M: Copy>(
     m: &mut Machine<'_, '_, M>,
     failed: bool,
@@ -73,7 +73,7 @@ pub fn tell_uncaught<M: Copy>(
 
 /// Goes on behind an object of a class that was raised or thrown in the running thread: it is told, behind these events, and where none of its frames
 /// handles it the thread ends.
-#[tactic(auto, using(crate::proofs::JcoreProofs::Ready::handled_ready, crate::proofs::JcoreProofs::Settled::raised_full, crate::proofs::JcoreProofs::Settled::raised_handled, crate::proofs::JcoreProofs::Settled::raised_uncaught))]
+#[tactic(auto, using(crate::proofs::JcoreProofs::ReadyMachines::handled_ready, crate::proofs::JcoreProofs::StepOutcomes::raised_full, crate::proofs::JcoreProofs::StepOutcomes::raised_handled, crate::proofs::JcoreProofs::StepOutcomes::raised_uncaught))]
 pub fn settle_raised<M: Copy>(
     alloc: Global,
     m: &mut Machine<'_, '_, M>,
@@ -114,7 +114,7 @@ pub fn full(alloc: Global) -> Came
 }
 
 /// Goes on behind a step of the running thread, which needn't ask the library.
-#[tactic(auto, using(crate::proofs::JcoreProofs::Ready::went_ready, crate::proofs::JcoreProofs::Ready::left_handled, crate::proofs::JcoreProofs::Settled::settlings))]
+#[tactic(auto, using(crate::proofs::JcoreProofs::ReadyMachines::went_ready, crate::proofs::JcoreProofs::ReadyMachines::left_handled, crate::proofs::JcoreProofs::StepOutcomes::settlings))]
 pub fn settle<M: Copy>(
     alloc: Global,
     m: &mut Machine<'_, '_, M>,

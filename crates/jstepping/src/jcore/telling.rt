@@ -1,15 +1,15 @@
 ghost use Rattle.std.specs.Prelude.{◌≡◌, IfOk, map};
-ghost use Rattle.jprogram.specs.Classes.{name_at};
+ghost use Rattle.jresolution.specs.jprogram.ProgramClasses.{name_at};
 ghost use Rattle.jtypes.specs.declared.vtype.VType.TheVariants as types;
-ghost use Rattle.jmeaning.specs.juses.Types.{class_named};
-ghost use Rattle.jmodel.specs.jmachine.Making;
-ghost use Rattle.jmodel.specs.ProofNames;
-ghost use Rattle.jmodel.specs.jmachine.Unwinding.{told_name};
+ghost use Rattle.jresolution.specs.juses.InternedTypes.{class_named};
+ghost use Rattle.jsemantics.specs.jmachine.ObjectInstructions;
+ghost use Rattle.jsemantics.specs.ProofNames;
+ghost use Rattle.jsemantics.specs.jmachine.Unwinding.{told_name};
 
-use jground::jbase::Stop;
+use jground::jbase::FaultOrMemory;
 use jground::jtext::Units;
 use jlinking::jlink::LinkedProgram;
-use jprogram::ClassRef;
+use jresolution::jprogram::ClassRef;
 use std::alloc::{AllocError, Global};
 
 /// A dot for a slash.
@@ -23,14 +23,14 @@ fn dotted(unit: u16) -> u16
 }
 
 /// The units that bytes of a class file hold, none where they are no text.
-#[tactic(auto, unfolding(jmodel::specs::jmachine::Making::units_of))]
+#[tactic(auto, unfolding(jsemantics::specs::jmachine::ObjectInstructions::units_of))]
 fn units_held(alloc: Global, bytes: &[u8]) -> Result<Units, AllocError>
-    ensures { IfOk result (λ units. units ≡ Making.units_of bytes.now) }
+    ensures { IfOk result (λ units. units ≡ ObjectInstructions.units_of bytes.now) }
 {
     match jground::jtext::units_of(alloc, bytes) {
         Ok(units) => Ok(units),
-        Err(Stop::Memory) => Err(AllocError),
-        Err(Stop::Fault(_)) => Ok(Units::new(alloc)),
+        Err(FaultOrMemory::Memory) => Err(AllocError),
+        Err(FaultOrMemory::Fault(_)) => Ok(Units::new(alloc)),
     }
 }
 
@@ -46,7 +46,7 @@ fn with_dots(units: Units) -> Units
 }
 
 /// The name of a class as it is told, with dots.
-#[tactic(auto, unfolding(jmodel::specs::jmachine::Unwinding::told_name))]
+#[tactic(auto, unfolding(jsemantics::specs::jmachine::Unwinding::told_name))]
 pub(crate) fn told_name(
     alloc: Global,
     program: &LinkedProgram,

@@ -1,17 +1,17 @@
 ghost use Rattle.std.specs.Prelude.{◌≡◌, ◌<◌, ◌^◌, [], IfOk};
-ghost use Rattle.jserving.specs.jshapes.Numbered.{IsStrings};
-ghost use Rattle.jserving.specs.jshapes.Tied.{AreTied};
-ghost use Rattle.jstepping.specs.jopen.Begun.{BeginsOr, HasOut, HasStrings};
+ghost use Rattle.jserving.specs.jcells.ArrayTypeNumbers.{IsStrings};
+ghost use Rattle.jserving.specs.jcells.CellLayout.{AreTied};
+ghost use Rattle.jstepping.specs.jopen.InitialHeaps.{BeginsOr, HasOut, HasStrings};
 
 use crate::jopen::statics::put_statics;
 use crate::jopen::texts::make_all;
-use jheap::{Heap, Kind};
 use jlib::LibClass;
 use jlibcalls::jconstants::Constants;
 use jlinking::jlink::{LinkedProgram, are_files};
-use jmodel::jstate::{built_laws, celled_laws, heap_laws, library_number};
+use jmemory::jheap::{Heap, Kind};
 use jready::{Ready, StaticRow};
-use jserving::jshapes::Shaped;
+use jruntime::jstate::{built_laws, celled_laws, heap_laws, library_number};
+use jserving::jcells::Shaped;
 use std::alloc::{AllocError, Global};
 
 /// The heap in which a run begins.

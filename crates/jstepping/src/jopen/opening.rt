@@ -1,20 +1,20 @@
 ghost use Rattle.std.specs.Prelude.{◌≡◌, ◌<◌, ◌^◌, IfOk, is_some, true};
-ghost use Rattle.jmeaning.specs.juses.Instructions;
-ghost use Rattle.jmodel.specs.jmachine.Opening.{arguments_number};
-ghost use Rattle.jserving.specs.jshapes.Numbered.{IsStrings};
-ghost use Rattle.jserving.specs.jshapes.Tied.{AreTied};
-ghost use Rattle.jstepping.specs.jopen.Opened.{BeginsMain, IsAlone, OpensOr};
+ghost use Rattle.jresolution.specs.juses.IndexedInstructions;
+ghost use Rattle.jsemantics.specs.jmachine.OpeningState.{arguments_number};
+ghost use Rattle.jserving.specs.jcells.ArrayTypeNumbers.{IsStrings};
+ghost use Rattle.jserving.specs.jcells.CellLayout.{AreTied};
+ghost use Rattle.jstepping.specs.jopen.InitialMachines.{BeginsMain, IsAlone, OpensOr};
 
 use crate::jopen::heap::begin;
-use jground::jops::Value;
-use jheap::Heap;
 use jlibcalls::jconstants::Constants;
 use jlinking::jlink::LinkedProgram;
-use jmeaning::juses::code_at;
-use jmodel::jstate::Frames;
-use jprogram::MethodId;
+use jmemory::jheap::Heap;
 use jready::Ready;
-use jserving::jshapes::Shaped;
+use jresolution::jprogram::MethodId;
+use jresolution::juses::code_at;
+use jruntime::jstate::Frames;
+use jserving::jcells::Shaped;
+use jvalues::jops::Value;
 use std::alloc::{AllocError, Global};
 
 /// The state in which a run begins.
@@ -45,7 +45,7 @@ fn first_frames<M: Copy>(
     first: FirstFrame<M>,
     array: u32,
 ) -> Result<Frames<M>, AllocError>
-    requires coded { is_some (Instructions.code_at p.now first.main) ≡ true }
+    requires coded { is_some (IndexedInstructions.code_at p.now first.main) ≡ true }
     requires array { array ≡ arguments_number p.now }
     ensures begins { IfOk result (BeginsMain p.now first) }
     ensures alone { IfOk result (IsAlone first) }
@@ -81,7 +81,7 @@ pub fn open<'p, M: Copy>(
     requires tied { AreTied ready.now.program ready.now.methods.tables shaped.now.shapes }
     requires strings { IsStrings shaped.now.shapes shaped.now.strings }
     requires most { cells < 2 ^ 31 }
-    requires coded { is_some (Instructions.code_at ready.now.program first.main) ≡ true }
+    requires coded { is_some (IndexedInstructions.code_at ready.now.program first.main) ≡ true }
     ensures { IfOk result (λ o. OpensOr ready.now.program shaped.now.shapes first cells o) }
 {
     let Some(begun) = begin(alloc, ready, shaped, cells)? else {

@@ -1,15 +1,15 @@
 ghost use Rattle.std.specs.Prelude.{◌≡◌, ◌<◌, ◌^◌, [], IfOk, OnOk, length, option_map, replicate, slice_set, unwrap_or};
-ghost use Rattle.jheap.specs.Heaps.{with_statics};
-ghost use Rattle.jheap.specs.Raw;
-ghost use Rattle.jground.specs.declared.jops.value.Value.TheVariants as values;
+ghost use Rattle.jmemory.specs.jheap.Heaps.{with_statics};
+ghost use Rattle.jmemory.specs.jheap.RawValues;
+ghost use Rattle.jvalues.specs.declared.jops.value.Value.TheVariants as values;
 ghost use Rattle.jready.specs.Statics as held;
-ghost use Rattle.jstepping.specs.jopen.Rows.{row_value, values_of};
-ghost use Rattle.jstepping.specs.jopen.Texts.{HasSet};
+ghost use Rattle.jstepping.specs.jopen.StaticRows.{row_value, values_of};
+ghost use Rattle.jstepping.specs.jopen.OpeningTexts.{HasSet};
 
-use jground::jops::Value;
-use jheap::{CellType, Heap, raw_laws};
 use jlibcalls::jconstants::Constants;
+use jmemory::jheap::{CellType, Heap, raw_laws};
 use jready::{First, StaticRow};
+use jvalues::jops::Value;
 use std::alloc::{AllocError, Global};
 
 /// What a cell holds before anything is put there: 0 or null.
@@ -50,8 +50,8 @@ fn value_of(alloc: Global, constants: &Constants<'_>, row: StaticRow) -> Result<
 /// Puts a value into a static. Its cell gives it back.
 fn put(heap: &mut Heap, i: u32, value: Value)
     requires { i < length heap.old.statics }
-    ensures sets { heap.new ≡ with_statics heap.old (slice_set heap.old.statics i (Raw.raw value)) }
-    ensures back { Raw.of_raw (Raw.type_of value) (Raw.raw value) ≡ value }
+    ensures sets { heap.new ≡ with_statics heap.old (slice_set heap.old.statics i (RawValues.raw value)) }
+    ensures back { RawValues.of_raw (RawValues.type_of value) (RawValues.raw value) ≡ value }
 {
     raw_laws();
     heap.set_static(i, value);

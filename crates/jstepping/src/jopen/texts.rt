@@ -1,12 +1,12 @@
 ghost use Rattle.std.specs.Prelude.{◌≡◌, ◌<◌, [], IfOk, OnOk, MatchBool};
-ghost use Rattle.jprogram.specs.Classes.{Program};
-ghost use Rattle.jmodel.specs.jstate.Celled.{StayCelled};
-ghost use Rattle.jmodel.specs.jstate.Seen.{AreBuilt};
-ghost use Rattle.jstepping.specs.jopen.Rows.{row_text, texts_of};
-ghost use Rattle.jstepping.specs.jopen.Texts.{HasMade, MakesFor, texts_charge};
+ghost use Rattle.jresolution.specs.jprogram.ProgramClasses.{Program};
+ghost use Rattle.jruntime.specs.jstate.ObjectCells.{StayCelled};
+ghost use Rattle.jruntime.specs.jstate.HeapMeanings.{AreBuilt};
+ghost use Rattle.jstepping.specs.jopen.StaticRows.{row_text, texts_of};
+ghost use Rattle.jstepping.specs.jopen.OpeningTexts.{HasMade, MakesFor, texts_charge};
 
-use jheap::Heap;
 use jlibcalls::jconstants::Constants;
+use jmemory::jheap::Heap;
 use jready::{First, StaticRow};
 use std::alloc::{AllocError, Global};
 

@@ -1,20 +1,20 @@
 ghost use Rattle.std.specs.Prelude.{◌≡◌, ◌<◌, ◌+◌, ◌^◌};
 ghost use Rattle.jparts.specs.declared.jcode.names.Element.TheVariants as items;
-ghost use Rattle.jparts.specs.declared.jcode.form.ArrayForm.TheVariants as forms;
-ghost use Rattle.jmeaning.specs.juses.Instructions as instructions;
-ghost use Rattle.jmodel.specs.jstate.Celled.{AreCelled};
-ghost use Rattle.jmodel.specs.jstate.Seen.{AreBuilt};
-ghost use Rattle.jrows.specs.jobjs.Staying.{Stays};
-ghost use Rattle.jstepping.specs.jrefs.Seen.{SeenActs};
-ghost use Rattle.jrows.specs.jacts.Ways.{Rests};
+ghost use Rattle.jparts.specs.declared.jcode.op_form.ArrayForm.TheVariants as forms;
+ghost use Rattle.jresolution.specs.juses.IndexedInstructions as instructions;
+ghost use Rattle.jruntime.specs.jstate.ObjectCells.{AreCelled};
+ghost use Rattle.jruntime.specs.jstate.HeapMeanings.{AreBuilt};
+ghost use Rattle.jrows.specs.jobjs.RowFrames.{Stays};
+ghost use Rattle.jstepping.specs.jrefs.RowInvariance.{SeenActs};
+ghost use Rattle.jrows.specs.jacts.RowOutcomes.{Rests};
 
 use crate::jrefs::lasting::Lasting;
 use crate::jrefs::serving::{holds_stored, serves_store};
-use jheap::Heap;
-use jmodel::jstate::Frames;
+use jmemory::jheap::Heap;
 use jrows::jacts::Way;
 use jrows::jcalls::Counts;
 use jrows::jobjs::store_ref;
+use jruntime::jstate::Frames;
 
 /// A store of a reference into an array (JVMS 6.5: aastore).
 #[inline]

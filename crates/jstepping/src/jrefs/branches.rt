@@ -1,17 +1,17 @@
 ghost use Rattle.std.specs.Prelude.{◌≡◌, ◌<◌, ◌+◌, ◌^◌};
-ghost use Rattle.jmeaning.specs.juses.Instructions as instructions;
-ghost use Rattle.jrows.specs.jobjs.Staying.{Stays};
-ghost use Rattle.jstepping.specs.jrefs.Seen.{SeenActs};
-ghost use Rattle.jrows.specs.jacts.Ways.{Rests};
+ghost use Rattle.jresolution.specs.juses.IndexedInstructions as instructions;
+ghost use Rattle.jrows.specs.jobjs.RowFrames.{Stays};
+ghost use Rattle.jstepping.specs.jrefs.RowInvariance.{SeenActs};
+ghost use Rattle.jrows.specs.jacts.RowOutcomes.{Rests};
 
 use crate::jrefs::lasting::Lasting;
 use crate::jrefs::serving::serves_test;
-use jheap::Heap;
-use jmodel::jstate::Frames;
+use jmemory::jheap::Heap;
 use jparts::jcode::RefTest;
 use jrows::jacts::Way;
 use jrows::jcalls::Counts;
 use jrows::jobjs::{if_null, if_same};
+use jruntime::jstate::Frames;
 
 /// A branch that tests references (JVMS 6.5: ifnull, ifnonnull, if_acmpeq, if_acmpne).
 #[inline]

@@ -1,26 +1,26 @@
 ghost use Rattle.std.specs.Prelude.{◌≡◌, ◌<◌, ◌+◌, ◌^◌, None, Some};
-ghost use Rattle.jparts.specs.declared.jcode.form.PoolForm.TheVariants as forms;
-ghost use Rattle.jmeaning.specs.juses.Instructions as instructions;
-ghost use Rattle.jmeaning.specs.juses.Meanings as meanings;
-ghost use Rattle.jmeaning.specs.juses.Tables.{pool_at};
-ghost use Rattle.jmeaning.specs.juses.Types.{named};
+ghost use Rattle.jparts.specs.declared.jcode.op_form.PoolForm.TheVariants as forms;
+ghost use Rattle.jresolution.specs.juses.IndexedInstructions as instructions;
+ghost use Rattle.jresolution.specs.juses.InstructionMeanings as meanings;
+ghost use Rattle.jresolution.specs.juses.PoolTables.{pool_at};
+ghost use Rattle.jresolution.specs.juses.InternedTypes.{named};
 ghost use Rattle.jtypes.specs.declared.vtype.VType.{VType};
 ghost use Rattle.jrows.specs.declared.jacts.way.Way.TheVariants as ways;
-ghost use Rattle.jrows.specs.jobjs.Staying.{Stays};
-ghost use Rattle.jstepping.specs.jrefs.References.{IsLasting};
-ghost use Rattle.jstepping.specs.jrefs.Seen.{SeenActs};
-ghost use Rattle.jrows.specs.jacts.Ways.{Rests};
+ghost use Rattle.jrows.specs.jobjs.RowFrames.{Stays};
+ghost use Rattle.jstepping.specs.jrefs.ReferenceRows.{IsLasting};
+ghost use Rattle.jstepping.specs.jrefs.RowInvariance.{SeenActs};
+ghost use Rattle.jrows.specs.jacts.RowOutcomes.{Rests};
 
 use crate::jrefs::lasting::Lasting;
 use crate::jrefs::looking::cast_used;
 use crate::jrefs::serving::{is_of, serves_cast};
-use jheap::Heap;
-use jmeaning::juses::TypeRef;
-use jmodel::jstate::Frames;
+use jmemory::jheap::Heap;
 use jparts::jcode::CastOp;
+use jresolution::juses::TypeRef;
 use jrows::jacts::Way;
 use jrows::jcalls::Counts;
 use jrows::jobjs::{check_cast, instance_of};
+use jruntime::jstate::Frames;
 
 /// A cast of a reference to a type, or a test for it (JVMS 6.5: checkcast, instanceof).
 #[inline]

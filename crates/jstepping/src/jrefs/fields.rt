@@ -1,31 +1,31 @@
 ghost use Rattle.std.specs.Prelude.{◌≡◌, ◌<◌, ◌+◌, ◌^◌, ℕ, Some};
 ghost use Rattle.jparts.specs.declared.jcode.names.FieldOp.TheVariants as ops;
-ghost use Rattle.jmodel.specs.jmachine.Narrowing.{narrowed};
-ghost use Rattle.jground.specs.declared.jops.value.Value.{Value as ValueOf};
-ghost use Rattle.jprogram.specs.Classes.{Program};
-ghost use Rattle.jmeaning.specs.juses.Instructions as instructions;
-ghost use Rattle.jmeaning.specs.juses.Meanings as meanings;
-ghost use Rattle.jmeaning.specs.juses.Meanings.{FieldMeaning};
-ghost use Rattle.jmeaning.specs.juses.Types.{element_named};
-ghost use Rattle.jready.specs.Exact as exact;
-ghost use Rattle.jmodel.specs.jstate.Celled.{AreCelled};
-ghost use Rattle.jmodel.specs.jstate.Seen.{AreBuilt};
-ghost use Rattle.jrows.specs.jobjs.Staying.{Stays};
-ghost use Rattle.jstepping.specs.jrefs.Naming.{NamesField};
-ghost use Rattle.jstepping.specs.jrefs.References.{IsLasting};
-ghost use Rattle.jstepping.specs.jrefs.Seen.{SeenActs};
-ghost use Rattle.jrows.specs.jacts.Ways.{Rests};
+ghost use Rattle.jsemantics.specs.jmachine.Narrowing.{narrowed};
+ghost use Rattle.jvalues.specs.declared.jops.value.Value.{Value as ValueOf};
+ghost use Rattle.jresolution.specs.jprogram.ProgramClasses.{Program};
+ghost use Rattle.jresolution.specs.juses.IndexedInstructions as instructions;
+ghost use Rattle.jresolution.specs.juses.InstructionMeanings as meanings;
+ghost use Rattle.jresolution.specs.juses.InstructionMeanings.{FieldMeaning};
+ghost use Rattle.jresolution.specs.juses.InternedTypes.{element_named};
+ghost use Rattle.jready.specs.InlineOperands as exact;
+ghost use Rattle.jruntime.specs.jstate.ObjectCells.{AreCelled};
+ghost use Rattle.jruntime.specs.jstate.HeapMeanings.{AreBuilt};
+ghost use Rattle.jrows.specs.jobjs.RowFrames.{Stays};
+ghost use Rattle.jstepping.specs.jrefs.NamedEntries.{NamesField};
+ghost use Rattle.jstepping.specs.jrefs.ReferenceRows.{IsLasting};
+ghost use Rattle.jstepping.specs.jrefs.RowInvariance.{SeenActs};
+ghost use Rattle.jrows.specs.jacts.RowOutcomes.{Rests};
 
 use crate::jrefs::lasting::Lasting;
 use crate::jrefs::looking::{FieldAt, held_of, owner_of};
 use crate::jrefs::serving::{serves_read, serves_write};
-use jheap::Heap;
-use jmeaning::juses::ElementRef;
-use jmodel::jstate::{Frames, heap_laws};
+use jmemory::jheap::Heap;
 use jready::Narrow;
+use jresolution::juses::ElementRef;
 use jrows::jacts::Way;
 use jrows::jcalls::Counts;
 use jrows::jobjs::{get_field, put_field};
+use jruntime::jstate::{Frames, heap_laws};
 
 /// What is left of an int in a field is what an array of such elements keeps of it.
 #[inline]

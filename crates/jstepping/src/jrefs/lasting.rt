@@ -1,5 +1,5 @@
-use jmodel::jstate::Shapes;
 use jready::Ready;
+use jruntime::jstate::Shapes;
 use jserving::jfits::Ancestors;
 
 /// What lasts as long as a program runs, as rows with references look at it.

@@ -1,27 +1,27 @@
 ghost use Rattle.std.specs.Prelude.{◌≡◌, ◌<◌, List, Some, length, option_map, true};
 ghost use Rattle.std.specs.Str.{bytes_eq};
 ghost use Rattle.jparts.specs.declared.jpool.entry.Entry.{Entry};
-ghost use Rattle.jparts.specs.declared.jcode.form.PoolForm.TheVariants as forms;
-ghost use Rattle.jmodel.specs.jmachine.Steps;
-ghost use Rattle.jmodel.specs.jmachine.Steps.{own_fields};
-ghost use Rattle.jprogram.specs.declared.part.ClassRef.TheVariants as refs;
-ghost use Rattle.jprogram.specs.Classes.{Program, name_at};
-ghost use Rattle.jprogram.specs.Members as members;
-ghost use Rattle.jmeaning.specs.declared.juses.types.TypeRef.{TypeRef as Ref};
-ghost use Rattle.jmeaning.specs.juses.Meanings.{FieldMeaning, field_named, meaning_of, meant};
-ghost use Rattle.jmeaning.specs.juses.Tables.{pool_at};
-ghost use Rattle.jmeaning.specs.juses.Types.{class_named, named};
-ghost use Rattle.jmeaning.specs.juses.Uses.{AreUses};
-ghost use Rattle.jready.specs.Only.{only_cast, only_field};
-ghost use Rattle.jstepping.specs.jrefs.Naming.{NamesField};
-ghost use Rattle.jstepping.specs.jrefs.References.{IsLasting};
+ghost use Rattle.jparts.specs.declared.jcode.op_form.PoolForm.TheVariants as forms;
+ghost use Rattle.jsemantics.specs.jmachine.MachineSteps;
+ghost use Rattle.jsemantics.specs.jmachine.MachineSteps.{own_fields};
+ghost use Rattle.jresolution.specs.declared.jprogram.part.ClassRef.TheVariants as refs;
+ghost use Rattle.jresolution.specs.jprogram.ProgramClasses.{Program, name_at};
+ghost use Rattle.jresolution.specs.jprogram.MemberResolution as members;
+ghost use Rattle.jresolution.specs.declared.juses.types.TypeRef.{TypeRef as Ref};
+ghost use Rattle.jresolution.specs.juses.InstructionMeanings.{FieldMeaning, field_named, meaning_of, meant};
+ghost use Rattle.jresolution.specs.juses.PoolTables.{pool_at};
+ghost use Rattle.jresolution.specs.juses.InternedTypes.{class_named, named};
+ghost use Rattle.jresolution.specs.juses.EntryUses.{AreUses};
+ghost use Rattle.jready.specs.MeaningParts.{only_cast, only_field};
+ghost use Rattle.jstepping.specs.jrefs.NamedEntries.{NamesField};
+ghost use Rattle.jstepping.specs.jrefs.ReferenceRows.{IsLasting};
 
 use crate::jrefs::lasting::Lasting;
-use jheap::CellType;
-use jmeaning::juses::{FieldUse, TypeRef, Use, Uses};
+use jmemory::jheap::CellType;
 use jparts::jcode::{CastOp, FieldOp, PoolForm};
-use jprogram::{ClassRef, Member, MethodId, NamedProgram};
 use jready::Narrow;
+use jresolution::jprogram::{ClassRef, Member, MethodId, NamedProgram};
+use jresolution::juses::{FieldUse, TypeRef, Use, Uses};
 
 /// A user's field, as an instruction by number has it.
 #[derive(Clone, Copy)]
@@ -92,7 +92,7 @@ fn is_place(x: &Lasting<'_, '_>, class: u32) -> bool
 
 /// The class by which a field is named that an instruction of a class names.
 #[inline]
-#[tactic(auto, using(crate::proofs::JrefsProofs::Finding::owner_place, crate::proofs::JrefsProofs::Finding::owner_used, crate::proofs::JrefsProofs::Finding::never_none))]
+#[tactic(auto, using(crate::proofs::JrefsProofs::EntryLookup::owner_place, crate::proofs::JrefsProofs::EntryLookup::owner_used, crate::proofs::JrefsProofs::EntryLookup::never_none))]
 pub(crate) fn owner_of(x: &Lasting<'_, '_>, class: u32, a: FieldAt) -> Option<ClassRef>
     requires { IsLasting x.now }
     ensures { (f : FieldMeaning) → NamesField x.now.ancestors.now class a f → option_map (class_named x.now.ancestors.now) result ≡ Some f.owner }
@@ -107,7 +107,7 @@ pub(crate) fn owner_of(x: &Lasting<'_, '_>, class: u32, a: FieldAt) -> Option<Cl
 }
 
 /// The type by which it is named, at its entry.
-#[tactic(auto, using(crate::proofs::JrefsProofs::Finding::held_used, crate::proofs::JrefsProofs::Finding::never_none))]
+#[tactic(auto, using(crate::proofs::JrefsProofs::EntryLookup::held_used, crate::proofs::JrefsProofs::EntryLookup::never_none))]
 fn held_at(x: &Lasting<'_, '_>, class: u32, a: FieldAt) -> Option<TypeRef>
     requires { IsLasting x.now }
     ensures { (f : FieldMeaning) → NamesField x.now.ancestors.now class a f → option_map (named x.now.ancestors.now) result ≡ Some f.held }
@@ -120,7 +120,7 @@ fn held_at(x: &Lasting<'_, '_>, class: u32, a: FieldAt) -> Option<TypeRef>
 
 /// The same, which its cell tells of a number.
 #[inline]
-#[tactic(auto, using(crate::proofs::JrefsProofs::Finding::held_int, crate::proofs::JrefsProofs::Finding::held_long))]
+#[tactic(auto, using(crate::proofs::JrefsProofs::EntryLookup::held_int, crate::proofs::JrefsProofs::EntryLookup::held_long))]
 pub(crate) fn held_of(x: &Lasting<'_, '_>, class: u32, a: FieldAt) -> Option<TypeRef>
     requires { IsLasting x.now }
     ensures { (f : FieldMeaning) → NamesField x.now.ancestors.now class a f → option_map (named x.now.ancestors.now) result ≡ Some f.held }
@@ -137,7 +137,7 @@ pub(crate) fn held_of(x: &Lasting<'_, '_>, class: u32, a: FieldAt) -> Option<Typ
 
 /// Whether a method is an `<init>`.
 fn is_init(p: &NamedProgram, m: MethodId) -> bool
-    ensures { result ≡ Steps.is_init p.now m }
+    ensures { result ≡ MachineSteps.is_init p.now m }
 {
     let method = Member::Method(m);
     p.name_of_member(method) == b"<init>".as_slice() && !p.is_static(method)
@@ -151,7 +151,7 @@ fn declares(p: &NamedProgram, m: MethodId, field: Member) -> bool
 }
 
 /// Whether it is an `<init>` of the class that declares a field.
-#[tactic(auto, unfolding(jmodel::specs::jmachine::World::world))]
+#[tactic(auto, unfolding(jsemantics::specs::jmachine::World::world))]
 fn is_own(x: &Lasting<'_, '_>, m: MethodId, field: Member) -> bool
     requires { IsLasting x.now }
     ensures { result ≡ own_fields x.now.ancestors.now m field }
@@ -161,7 +161,7 @@ fn is_own(x: &Lasting<'_, '_>, m: MethodId, field: Member) -> bool
 }
 
 /// The same of the field that an instruction of a method names.
-#[tactic(auto, using(crate::proofs::JrefsProofs::Finding::own_used, crate::proofs::JrefsProofs::Finding::never_none))]
+#[tactic(auto, using(crate::proofs::JrefsProofs::EntryLookup::own_used, crate::proofs::JrefsProofs::EntryLookup::never_none))]
 pub(crate) fn writes_own(x: &Lasting<'_, '_>, m: MethodId, a: FieldAt) -> bool
     requires { IsLasting x.now }
     ensures { (f : FieldMeaning) → NamesField x.now.ancestors.now m.class a f → result ≡ own_fields x.now.ancestors.now m f.member }

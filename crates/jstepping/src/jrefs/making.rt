@@ -1,26 +1,26 @@
 ghost use Rattle.std.specs.Prelude.{◌≡◌, ◌<◌, ◌+◌, ◌^◌, IfOk, OnOk, Some};
-ghost use Rattle.jparts.specs.declared.jcode.form.PoolForm.TheVariants as forms;
-ghost use Rattle.jprogram.specs.declared.part.ClassRef.TheVariants as refs;
-ghost use Rattle.jmeaning.specs.juses.Instructions as instructions;
-ghost use Rattle.jmeaning.specs.juses.Meanings as meanings;
-ghost use Rattle.jmeaning.specs.juses.Tables.{pool_at};
-ghost use Rattle.jmeaning.specs.juses.Types.{class_named};
+ghost use Rattle.jparts.specs.declared.jcode.op_form.PoolForm.TheVariants as forms;
+ghost use Rattle.jresolution.specs.declared.jprogram.part.ClassRef.TheVariants as refs;
+ghost use Rattle.jresolution.specs.juses.IndexedInstructions as instructions;
+ghost use Rattle.jresolution.specs.juses.InstructionMeanings as meanings;
+ghost use Rattle.jresolution.specs.juses.PoolTables.{pool_at};
+ghost use Rattle.jresolution.specs.juses.InternedTypes.{class_named};
 ghost use Rattle.jtypes.specs.declared.vtype.VType.{VType};
-ghost use Rattle.jready.specs.Exact.{MakesArray};
-ghost use Rattle.jmodel.specs.jstate.Celled.{AreCelled};
-ghost use Rattle.jmodel.specs.jstate.Seen.{AreBuilt};
+ghost use Rattle.jready.specs.InlineOperands.{MakesArray};
+ghost use Rattle.jruntime.specs.jstate.ObjectCells.{AreCelled};
+ghost use Rattle.jruntime.specs.jstate.HeapMeanings.{AreBuilt};
 ghost use Rattle.jrows.specs.declared.jcalls.ready.Counts.{Counts as CountsOf};
-ghost use Rattle.jrows.specs.jobjs.Staying.{Stays};
-ghost use Rattle.jstepping.specs.jrefs.References.{IsLasting};
-ghost use Rattle.jstepping.specs.jrefs.Seen.{SeenActs};
-ghost use Rattle.jrows.specs.jacts.Ways.{Rests};
+ghost use Rattle.jrows.specs.jobjs.RowFrames.{Stays};
+ghost use Rattle.jstepping.specs.jrefs.ReferenceRows.{IsLasting};
+ghost use Rattle.jstepping.specs.jrefs.RowInvariance.{SeenActs};
+ghost use Rattle.jrows.specs.jacts.RowOutcomes.{Rests};
 
 use crate::jrefs::lasting::Lasting;
-use jheap::Heap;
 use jlib::LibClass;
-use jmodel::jstate::Frames;
+use jmemory::jheap::Heap;
 use jrows::jacts::Way;
 use jrows::jobjs::{new_library, new_object, new_refs};
+use jruntime::jstate::Frames;
 use std::alloc::{AllocError, Global};
 
 /// A new object of a user's class (JVMS 6.5: new).

@@ -1,18 +1,18 @@
 ghost use Rattle.std.specs.Prelude.{◌≡◌, ◌<◌, ◌+◌, ◌^◌, IfOk, OnOk};
-ghost use Rattle.jmeaning.specs.juses.Instructions as instructions;
-ghost use Rattle.jmeaning.specs.juses.Meanings as meanings;
-ghost use Rattle.jmeaning.specs.juses.Meanings.{FieldMeaning};
-ghost use Rattle.jprogram.specs.declared.member.Member.TheVariants as members;
-ghost use Rattle.jlinking.specs.jlink.Fields.{IsNamedField};
+ghost use Rattle.jresolution.specs.juses.IndexedInstructions as instructions;
+ghost use Rattle.jresolution.specs.juses.InstructionMeanings as meanings;
+ghost use Rattle.jresolution.specs.juses.InstructionMeanings.{FieldMeaning};
+ghost use Rattle.jresolution.specs.declared.jprogram.member.Member.TheVariants as members;
+ghost use Rattle.jlinking.specs.jlink.NamedFields.{IsNamedField};
 ghost use Rattle.jready.specs.declared.instr.Instr.TheVariants as instrs;
-ghost use Rattle.jmodel.specs.jstate.Celled.{AreCelled};
-ghost use Rattle.jmodel.specs.jstate.Seen.{AreBuilt};
-ghost use Rattle.jrows.specs.jobjs.Staying.{Stays};
+ghost use Rattle.jruntime.specs.jstate.ObjectCells.{AreCelled};
+ghost use Rattle.jruntime.specs.jstate.HeapMeanings.{AreBuilt};
+ghost use Rattle.jrows.specs.jobjs.RowFrames.{Stays};
 ghost use Rattle.jrows.specs.declared.jcalls.ready.Counts.{Counts as CountsOf};
-ghost use Rattle.jstepping.specs.jrefs.Naming.{NamesField};
-ghost use Rattle.jstepping.specs.jrefs.References.{IsExact, IsFetched, IsLasting, StaysStuck};
-ghost use Rattle.jstepping.specs.jrefs.Seen.{SeenActs, SeenRuns};
-ghost use Rattle.jrows.specs.jacts.Ways.{Rests};
+ghost use Rattle.jstepping.specs.jrefs.NamedEntries.{NamesField};
+ghost use Rattle.jstepping.specs.jrefs.ReferenceRows.{IsExact, IsFetched, IsLasting, StaysStuck};
+ghost use Rattle.jstepping.specs.jrefs.RowInvariance.{SeenActs, SeenRuns};
+ghost use Rattle.jrows.specs.jacts.RowOutcomes.{Rests};
 
 use crate::jrefs::casts::{cast, cast_named};
 use crate::jrefs::fields::{read, write};
@@ -20,21 +20,21 @@ use crate::jrefs::lasting::Lasting;
 use crate::jrefs::looking::FieldAt;
 use crate::jrefs::making::{make_array, make_library, make_user};
 use crate::jrefs::statics::{read_static, write_static};
-use jheap::Heap;
 use jlinking::jlink::field_law;
-use jmeaning::juses::TypeRef;
-use jmodel::jstate::Frames;
+use jmemory::jheap::Heap;
 use jparts::jcode::FieldOp;
-use jprogram::ClassRef;
 use jready::ObjectInstr;
+use jresolution::jprogram::ClassRef;
+use jresolution::juses::TypeRef;
 use jrows::jacts::Way;
 use jrows::jcalls::Counts;
 use jrows::jobjs::get_out;
+use jruntime::jstate::Frames;
 use std::alloc::{AllocError, Global};
 
 /// An instruction with a user's field (JVMS 6.5: getfield, putfield, getstatic, putstatic).
 #[inline]
-#[tactic(auto, using(jrows::proofs::JactsProofs::Resting::same, jrows::proofs::JactsProofs::Resting::ok_same))]
+#[tactic(auto, using(jrows::proofs::JactsProofs::ArrayFailures::same, jrows::proofs::JactsProofs::ArrayFailures::ok_same))]
 pub(crate) fn field<M: Copy>(
     frames: &mut Frames<M>,
     heap: &mut Heap,
@@ -88,7 +88,7 @@ pub(crate) fn system_out<M: Copy>(
 
 /// An instruction with a class, or with the library's field.
 #[inline]
-#[tactic(auto, using(jrows::proofs::JactsProofs::Resting::same, jrows::proofs::JactsProofs::Resting::ok_same))]
+#[tactic(auto, using(jrows::proofs::JactsProofs::ArrayFailures::same, jrows::proofs::JactsProofs::ArrayFailures::ok_same))]
 pub(crate) fn object<M: Copy>(
     alloc: Global,
     frames: &mut Frames<M>,

@@ -1,29 +1,29 @@
 ghost use Rattle.std.specs.Prelude.{◌≡◌, ◌<◌, ◌+◌, ◌^◌, IfOk, OnOk};
-ghost use Rattle.jmeaning.specs.juses.Instructions as instructions;
-ghost use Rattle.jmeaning.specs.juses.Numbered.{test_of};
+ghost use Rattle.jresolution.specs.juses.IndexedInstructions as instructions;
+ghost use Rattle.jresolution.specs.juses.InternedInstructions.{test_of};
 ghost use Rattle.jready.specs.declared.instr.ArrayInstr.TheVariants as arrays;
-ghost use Rattle.jready.specs.Meant.{array_instr, flow_meant};
-ghost use Rattle.jmodel.specs.jstate.Celled.{AreCelled};
-ghost use Rattle.jmodel.specs.jstate.Seen.{AreBuilt};
-ghost use Rattle.jrows.specs.jobjs.Staying.{Stays};
-ghost use Rattle.jstepping.specs.jrefs.References.{IsExact, IsFetched, IsFlowHere, IsHere, IsLasting, IsRefTest, Runs, RunsAlike, StaysStuck, StoresRef};
-ghost use Rattle.jstepping.specs.jrefs.Seen.{SeenActs, SeenRuns};
-ghost use Rattle.jrows.specs.jacts.Ways.{Rests};
+ghost use Rattle.jready.specs.DecodedInstructions.{array_instr, flow_meant};
+ghost use Rattle.jruntime.specs.jstate.ObjectCells.{AreCelled};
+ghost use Rattle.jruntime.specs.jstate.HeapMeanings.{AreBuilt};
+ghost use Rattle.jrows.specs.jobjs.RowFrames.{Stays};
+ghost use Rattle.jstepping.specs.jrefs.ReferenceRows.{IsExact, IsFetched, IsFlowHere, IsHere, IsLasting, IsRefTest, Runs, RunsAlike, StaysStuck, StoresRef};
+ghost use Rattle.jstepping.specs.jrefs.RowInvariance.{SeenActs, SeenRuns};
+ghost use Rattle.jrows.specs.jacts.RowOutcomes.{Rests};
 
 use crate::jrefs::arrays::store;
 use crate::jrefs::branches::branch;
 use crate::jrefs::lasting::Lasting;
 use crate::jrefs::looking::FieldAt;
 use crate::jrefs::objects::{field, object};
-use jheap::Heap;
 use jlinking::jlink::field_law;
-use jmeaning::juses::When;
-use jmodel::jstate::Frames;
+use jmemory::jheap::Heap;
 use jparts::jcode::Element;
 use jready::{ArrayInstr, FlowInstr, Instr};
+use jresolution::juses::Condition;
 use jrows::jacts::Way;
 use jrows::jcalls::Counts;
-use jserving::jshapes::alike_laws;
+use jruntime::jstate::Frames;
+use jserving::jcells::alike_laws;
 use std::alloc::{AllocError, Global};
 
 /// A branch that tests references.
@@ -33,7 +33,7 @@ fn jump<M: Copy>(
     heap: &Heap,
     x: &Lasting<'_, '_>,
     counts: Counts,
-    when: When,
+    when: Condition,
     to: u32,
 ) -> Way
     requires place { frames.old.newest.place + 1 < 2 ^ 32 }
@@ -44,10 +44,10 @@ fn jump<M: Copy>(
     ensures rests { Rests result frames.old frames.new }
 {
     match when {
-        When::IfRef(test) => branch(frames, heap, x, counts, test, to),
-        When::Always => unreachable!(),
-        When::If(_) => unreachable!(),
-        When::IfInt(_) => unreachable!(),
+        Condition::IfRef(test) => branch(frames, heap, x, counts, test, to),
+        Condition::Always => unreachable!(),
+        Condition::If(_) => unreachable!(),
+        Condition::IfInt(_) => unreachable!(),
     }
 }
 
@@ -107,7 +107,7 @@ fn store_of<M: Copy>(
 
 /// An instruction with an array, where that is such a store.
 #[inline]
-#[tactic(auto, using(jrows::proofs::JactsProofs::Resting::same))]
+#[tactic(auto, using(jrows::proofs::JactsProofs::ArrayFailures::same))]
 fn array<M: Copy>(
     frames: &mut Frames<M>,
     heap: &mut Heap,
@@ -137,7 +137,7 @@ fn array<M: Copy>(
 
 /// The row of an instruction by number that is here.
 #[inline]
-#[tactic(auto, using(jrows::proofs::JactsProofs::Resting::same, jrows::proofs::JactsProofs::Resting::ok_same))]
+#[tactic(auto, using(jrows::proofs::JactsProofs::ArrayFailures::same, jrows::proofs::JactsProofs::ArrayFailures::ok_same))]
 fn run_row<M: Copy>(
     alloc: Global,
     frames: &mut Frames<M>,

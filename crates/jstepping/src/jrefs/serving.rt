@@ -1,28 +1,28 @@
 ghost use Rattle.std.specs.Prelude.{◌≡◌, ℕ, List, slice_get};
 ghost use Rattle.jparts.specs.declared.jcode.names.CastOp.{CastOp};
 ghost use Rattle.jparts.specs.declared.jcode.names.FieldOp.TheVariants as ops;
-ghost use Rattle.jmodel.specs.jmachine.Sites.{Site};
-ghost use Rattle.jmodel.specs.jmachine.World.{world};
-ghost use Rattle.jrows.specs.jobjs.Branching.{ServeTest};
-ghost use Rattle.jrows.specs.jobjs.Serving.{IsOne};
-ghost use Rattle.jrows.specs.jobjs.Stored.{MayStore, ServeStore};
+ghost use Rattle.jsemantics.specs.jmachine.InstructionSites.{Site};
+ghost use Rattle.jsemantics.specs.jmachine.World.{world};
+ghost use Rattle.jrows.specs.jobjs.ReferenceBranches.{ServeTest};
+ghost use Rattle.jrows.specs.jobjs.EntryOperands.{IsOne};
+ghost use Rattle.jrows.specs.jobjs.StoredReferences.{MayStore, ServeStore};
 ghost use Rattle.jtypes.specs.declared.vtype.VType.{VType};
-ghost use Rattle.jmeaning.specs.juses.Meanings as meanings;
-ghost use Rattle.jmeaning.specs.juses.Meanings.{FieldMeaning};
-ghost use Rattle.jmeaning.specs.juses.Types.{class_named, named};
-ghost use Rattle.jmodel.specs.jstate.Seen.{Things, store_by};
-ghost use Rattle.jstepping.specs.jrefs.Naming.{NamesField};
-ghost use Rattle.jstepping.specs.jrefs.References.{IsLasting};
-ghost use Rattle.jstepping.specs.jrefs.Seen.{AreSeen, ServesAs, ServesOwn};
+ghost use Rattle.jresolution.specs.juses.InstructionMeanings as meanings;
+ghost use Rattle.jresolution.specs.juses.InstructionMeanings.{FieldMeaning};
+ghost use Rattle.jresolution.specs.juses.InternedTypes.{class_named, named};
+ghost use Rattle.jruntime.specs.jstate.HeapMeanings.{Things, store_by};
+ghost use Rattle.jstepping.specs.jrefs.NamedEntries.{NamesField};
+ghost use Rattle.jstepping.specs.jrefs.ReferenceRows.{IsLasting};
+ghost use Rattle.jstepping.specs.jrefs.RowInvariance.{AreSeen, ServesAs, ServesOwn};
 
 use crate::jrefs::lasting::Lasting;
 use crate::jrefs::looking::{FieldAt, writes_own};
-use jheap::Heap;
-use jmeaning::juses::TypeRef;
-use jmodel::jstate::Frames;
+use jmemory::jheap::Heap;
 use jparts::jcode::RefTest;
-use jprogram::ClassRef;
+use jresolution::jprogram::ClassRef;
+use jresolution::juses::TypeRef;
 use jrows::jcalls::Counts;
+use jruntime::jstate::Frames;
 use jserving::jserve::{
     Objects, get_field_serves, is_one, may_store, put_field_serves, put_static_serves, ref_serves,
     refs_serve, store_serves,

@@ -1,24 +1,24 @@
 ghost use Rattle.std.specs.Prelude.{◌≡◌, ◌<◌, ◌+◌, ◌^◌, IfOk, OnOk};
 ghost use Rattle.jparts.specs.declared.jcode.names.FieldOp.TheVariants as ops;
-ghost use Rattle.jmeaning.specs.juses.Instructions as instructions;
-ghost use Rattle.jmeaning.specs.juses.Meanings as meanings;
-ghost use Rattle.jmeaning.specs.juses.Meanings.{FieldMeaning};
+ghost use Rattle.jresolution.specs.juses.IndexedInstructions as instructions;
+ghost use Rattle.jresolution.specs.juses.InstructionMeanings as meanings;
+ghost use Rattle.jresolution.specs.juses.InstructionMeanings.{FieldMeaning};
 ghost use Rattle.jrows.specs.declared.jcalls.ready.Counts.{Counts as CountsOf};
-ghost use Rattle.jrows.specs.jobjs.Staying.{Stays};
-ghost use Rattle.jstepping.specs.jrefs.Naming.{NamesField};
-ghost use Rattle.jstepping.specs.jrefs.References.{IsLasting};
-ghost use Rattle.jstepping.specs.jrefs.Seen.{SeenActs};
-ghost use Rattle.jrows.specs.jacts.Ways.{Rests};
+ghost use Rattle.jrows.specs.jobjs.RowFrames.{Stays};
+ghost use Rattle.jstepping.specs.jrefs.NamedEntries.{NamesField};
+ghost use Rattle.jstepping.specs.jrefs.ReferenceRows.{IsLasting};
+ghost use Rattle.jstepping.specs.jrefs.RowInvariance.{SeenActs};
+ghost use Rattle.jrows.specs.jacts.RowOutcomes.{Rests};
 
 use crate::jrefs::fields::element_of;
 use crate::jrefs::lasting::Lasting;
 use crate::jrefs::looking::{FieldAt, held_of};
 use crate::jrefs::serving::serves_static;
-use jheap::Heap;
-use jmodel::jstate::{Frames, cell_laws};
+use jmemory::jheap::Heap;
 use jrows::jacts::Way;
 use jrows::jcalls::Counts;
 use jrows::jobjs::{get_static, put_static};
+use jruntime::jstate::{Frames, cell_laws};
 use std::alloc::AllocError;
 
 /// A read of a user's static (JVMS 6.5: getstatic).

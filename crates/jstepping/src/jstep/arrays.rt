@@ -1,22 +1,22 @@
 ghost use Rattle.std.specs.Prelude.{◌≡◌, ◌<◌, ◌+◌, ◌^◌, [], ℕ, IfOk, List, OnOk, length};
-ghost use Rattle.jprogram.specs.Classes.{Program};
-ghost use Rattle.jready.specs.Meant.{array_instr};
-ghost use Rattle.jmodel.specs.jstate.Celled.{StayCelled};
-ghost use Rattle.jmodel.specs.jstate.Seen.{AreBuilt, Things, store_by};
-ghost use Rattle.jrows.specs.jacts.Ways.{Acts, Rests, leaves};
-ghost use Rattle.jserving.specs.jshapes.Numbered.{AreRows};
-ghost use Rattle.jstepping.specs.jstep.Rows.{StoresNumber};
+ghost use Rattle.jresolution.specs.jprogram.ProgramClasses.{Program};
+ghost use Rattle.jready.specs.DecodedInstructions.{array_instr};
+ghost use Rattle.jruntime.specs.jstate.ObjectCells.{StayCelled};
+ghost use Rattle.jruntime.specs.jstate.HeapMeanings.{AreBuilt, Things, store_by};
+ghost use Rattle.jrows.specs.jacts.RowOutcomes.{Acts, Rests, leaves};
+ghost use Rattle.jserving.specs.jcells.ArrayTypeNumbers.{AreRows};
+ghost use Rattle.jstepping.specs.jstep.InstructionRows.{StoresNumber};
 
-use jheap::Heap;
-use jmodel::jstate::{Frames, Shapes};
+use jmemory::jheap::Heap;
 use jready::ArrayInstr;
 use jrows::jacts::{Way, array_length, array_load, array_store, new_array};
-use jserving::jshapes::NumberArrays;
+use jruntime::jstate::{Frames, Shapes};
+use jserving::jcells::NumberArrays;
 use std::alloc::{AllocError, Global};
 
 /// An instruction with an array, but a store of a reference (JVMS 6.5).
 #[inline]
-#[tactic(auto, using(jrows::proofs::JactsProofs::Resting::same, crate::proofs::JstepProofs::Leaving::same_celled))]
+#[tactic(auto, using(jrows::proofs::JactsProofs::ArrayFailures::same, crate::proofs::JstepProofs::ObjectPreservation::same_celled))]
 pub fn array<M: Copy>(
     alloc: Global,
     frames: &mut Frames<M>,

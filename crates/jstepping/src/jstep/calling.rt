@@ -1,38 +1,38 @@
 ghost use Rattle.std.specs.Prelude.{◌≡◌, ◌≤◌, ◌<◌, ◌^◌, IfOk, IfSome, OnOk, length, true};
-ghost use Rattle.jserving.specs.jinvoke.Invoking.{CallWithin};
-ghost use Rattle.jserving.specs.jserve.Calls as counting;
-ghost use Rattle.jmodel.specs.jstate.Celled.{StayCelled};
-ghost use Rattle.jmodel.specs.jstate.Framed.{all};
-ghost use Rattle.jmodel.specs.jstate.Seen.{AreBuilt};
-ghost use Rattle.jrows.specs.jcalls.Marks.{Stand};
-ghost use Rattle.jserving.specs.jshapes.Alike.{NamesNoMore};
-ghost use Rattle.jstepping.specs.jstep.Stepping.{ExecutesCall, IsFixed, StoodAs};
-ghost use Rattle.jstepping.specs.jstep.Serving.{ServesCall, TakesCall};
+ghost use Rattle.jserving.specs.jinvoke.InvokeOutcomes.{CallWithin};
+ghost use Rattle.jserving.specs.jserve.CallOperandChecks as counting;
+ghost use Rattle.jruntime.specs.jstate.ObjectCells.{StayCelled};
+ghost use Rattle.jruntime.specs.jstate.FrameLists.{all};
+ghost use Rattle.jruntime.specs.jstate.HeapMeanings.{AreBuilt};
+ghost use Rattle.jrows.specs.jcalls.FrameMarks.{Stand};
+ghost use Rattle.jserving.specs.jcells.ObjectEquivalence.{NamesNoMore};
+ghost use Rattle.jstepping.specs.jstep.StepRelation.{ExecutesCall, IsFixed, StoodAs};
+ghost use Rattle.jstepping.specs.jstep.HeapOperands.{ServesCall, TakesCall};
 
-use crate::jstep::fixed::Fixed;
 use crate::jstep::outcomes::Stepped;
+use crate::jstep::run_tables::RunTables;
 use crate::jstep::settling::settle_call;
-use jheap::Heap;
-use jmeaning::juses::{How, Span, TypeRef};
-use jmodel::jstate::Frames;
-use jprogram::ClassRef;
+use jmemory::jheap::Heap;
+use jresolution::jprogram::ClassRef;
+use jresolution::juses::{InvokeKind, Span, TypeRef};
 use jrows::jcalls::{Counts, Room};
+use jruntime::jstate::Frames;
 use jserving::jinvoke::Calls;
 use jserving::jserve::{Objects, call_serves};
 use std::alloc::{AllocError, Global};
 
 /// How many operands a call takes that has so many parameters.
 #[inline]
-fn count_of(by: How, params: usize) -> usize
+fn count_of(by: InvokeKind, params: usize) -> usize
     requires { counting.count_of by params < 2 ^ 64 }
     ensures { result ≡ counting.count_of by params }
 {
     match by {
-        How::Static => params,
-        How::Virtual => params + 1,
-        How::Special => params + 1,
-        How::Interface => params + 1,
-        How::Init => params + 1,
+        InvokeKind::Static => params,
+        InvokeKind::Virtual => params + 1,
+        InvokeKind::Special => params + 1,
+        InvokeKind::Interface => params + 1,
+        InvokeKind::Init => params + 1,
     }
 }
 
@@ -41,9 +41,9 @@ fn count_of(by: How, params: usize) -> usize
 fn serves<M: Copy>(
     frames: &Frames<M>,
     heap: &Heap,
-    fixed: &Fixed<'_, '_, M>,
+    fixed: &RunTables<'_, '_, M>,
     counts: Counts,
-    by: How,
+    by: InvokeKind,
     owner: ClassRef,
     params: &[TypeRef],
 ) -> bool
@@ -63,9 +63,9 @@ fn serves<M: Copy>(
 fn taken<M: Copy>(
     frames: &Frames<M>,
     heap: &Heap,
-    fixed: &Fixed<'_, '_, M>,
+    fixed: &RunTables<'_, '_, M>,
     counts: Counts,
-    by: How,
+    by: InvokeKind,
     owner: ClassRef,
     params: Span,
 ) -> Option<usize>
@@ -80,16 +80,16 @@ fn taken<M: Copy>(
 }
 
 /// A step that calls a method, or comes to one of the library, at a site.
-#[tactic(auto, using(crate::proofs::JstepProofs::Leaving::same_celled, crate::proofs::JstepProofs::Leaving::same_names))]
+#[tactic(auto, using(crate::proofs::JstepProofs::ObjectPreservation::same_celled, crate::proofs::JstepProofs::ObjectPreservation::same_names))]
 pub(crate) fn step_call<M: Copy>(
     alloc: Global,
     frames: &mut Frames<M>,
     heap: &mut Heap,
-    fixed: &Fixed<'_, '_, M>,
+    fixed: &RunTables<'_, '_, M>,
     calls: &mut Calls<'_>,
     counts: Counts,
     site: usize,
-    by: How,
+    by: InvokeKind,
     pool: u16,
     params: Span,
 ) -> Result<Stepped, AllocError>

@@ -1,42 +1,46 @@
 ghost use Rattle.std.specs.Prelude.{◌≡◌, ◌<◌, ◌+◌, ◌^◌, ◌∷◌, [], IfOk, List, OnOk, Some};
-ghost use Rattle.jmodel.specs.jmachine.Frames.{onward};
+ghost use Rattle.jsemantics.specs.jmachine.FrameOperations.{onward};
 ghost use Rattle.jparts.specs.declared.jpool.entry.Entry.{Entry};
-ghost use Rattle.jprogram.specs.Classes.{Program};
-ghost use Rattle.jmeaning.specs.juses.Instructions as instructions;
-ghost use Rattle.jready.specs.Laid.{PlainWithin, PushWithin};
-ghost use Rattle.jready.specs.Meant.{plain_meant, push_meant};
-ghost use Rattle.jmodel.specs.jstate.Framed.{with_newest};
+ghost use Rattle.jresolution.specs.jprogram.ProgramClasses.{Program};
+ghost use Rattle.jresolution.specs.juses.IndexedInstructions as instructions;
+ghost use Rattle.jready.specs.CodeLayout.{PlainWithin, PushWithin};
+ghost use Rattle.jready.specs.DecodedInstructions.{plain_meant, push_meant};
+ghost use Rattle.jruntime.specs.jstate.FrameLists.{with_newest};
 ghost use Rattle.jrows.specs.declared.jacts.way.Way.TheVariants as ways;
-ghost use Rattle.jstepping.specs.jstep.Rows.{DoesAs, IsNumber, IsNumberPush, pushed};
-ghost use Rattle.jrows.specs.jacts.Ways.{Rests};
+ghost use Rattle.jstepping.specs.jstep.InstructionRows.{DoesAs, IsNumber, IsNumberPush, pushed};
+ghost use Rattle.jrows.specs.jacts.RowOutcomes.{Rests};
 
-use jground::jops::Value;
-use jmodel::jstate::Frames;
 use jparts::jcode::Simple;
-use jready::{Plain, Push, Tables};
+use jready::{OperandOp, Push, Tables};
 use jrows::jacts::{Way, simple, way_laws};
+use jruntime::jstate::Frames;
+use jvalues::jops::Value;
 use std::alloc::AllocError;
 
 /// The form of an instruction with operands alone.
 #[inline]
-fn form_of(tables: &Tables, f: Plain) -> Simple
+fn form_of(tables: &Tables, f: OperandOp) -> Simple
     requires { PlainWithin tables.now f }
     ensures { plain_meant tables.now f ≡ Some (instructions.Simple result) }
 {
     match f {
-        Plain::Nothing => Simple::Nothing,
-        Plain::Null => Simple::Null,
-        Plain::Int(n) => Simple::Int(n),
-        Plain::Long(k) => Simple::Long(tables.long(k)),
-        Plain::Two(op) => Simple::Two(op),
-        Plain::Divide(op) => Simple::Divide(op),
-        Plain::One(op) => Simple::One(op),
+        OperandOp::Nothing => Simple::Nothing,
+        OperandOp::Null => Simple::Null,
+        OperandOp::Int(n) => Simple::Int(n),
+        OperandOp::Long(k) => Simple::Long(tables.long(k)),
+        OperandOp::Two(op) => Simple::Two(op),
+        OperandOp::Divide(op) => Simple::Divide(op),
+        OperandOp::One(op) => Simple::One(op),
     }
 }
 
 /// An instruction with operands alone (JVMS 6.5).
 #[inline]
-pub fn plain<M: Copy>(frames: &mut Frames<M>, tables: &Tables, f: Plain) -> Result<Way, AllocError>
+pub fn plain<M: Copy>(
+    frames: &mut Frames<M>,
+    tables: &Tables,
+    f: OperandOp,
+) -> Result<Way, AllocError>
     requires place { frames.old.newest.place + 1 < 2 ^ 32 }
     requires within { PlainWithin tables.now f }
     ensures row { IfOk result (λ way. DoesAs (plain_meant tables.now f) frames.old.newest way frames.new.newest) }

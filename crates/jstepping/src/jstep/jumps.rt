@@ -1,19 +1,19 @@
 ghost use Rattle.std.specs.Prelude.{◌≡◌, ◌<◌, ◌≤◌, ◌+◌, ◌^◌, Some, length};
-ghost use Rattle.jmeaning.specs.juses.Instructions as instructions;
-ghost use Rattle.jmeaning.specs.juses.Numbered.{test_of};
-ghost use Rattle.jready.specs.Meant.{flow_meant, lookup_meant, table_meant};
-ghost use Rattle.jready.specs.Tabled.{AreThere};
-ghost use Rattle.jrows.specs.jacts.Ways.{Does, Rests};
-ghost use Rattle.jstepping.specs.jstep.Rows.{DoesAs, IsFlowHere, IsNumberTest};
+ghost use Rattle.jresolution.specs.juses.IndexedInstructions as instructions;
+ghost use Rattle.jresolution.specs.juses.InternedInstructions.{test_of};
+ghost use Rattle.jready.specs.DecodedInstructions.{flow_meant, lookup_meant, table_meant};
+ghost use Rattle.jready.specs.TableGrowth.{AreThere};
+ghost use Rattle.jrows.specs.jacts.RowOutcomes.{Does, Rests};
+ghost use Rattle.jstepping.specs.jstep.InstructionRows.{DoesAs, IsFlowHere, IsNumberTest};
 
-use jmeaning::juses::When;
-use jmodel::jstate::Frames;
 use jready::{FlowInstr, Lookup, Table, Tables};
+use jresolution::juses::Condition;
 use jrows::jacts::{Way, goto, jump_if, jump_if_int, switch, switch_key, switch_laws};
+use jruntime::jstate::Frames;
 
 /// A branch that tests no reference (JVMS 6.5: goto, ifeq to ifle, if_icmpeq to if_icmple).
 #[inline]
-pub fn jump<M: Copy>(frames: &mut Frames<M>, when: When, to: u32) -> Way
+pub fn jump<M: Copy>(frames: &mut Frames<M>, when: Condition, to: u32) -> Way
     requires place { frames.old.newest.place + 1 < 2 ^ 32 }
     requires number { IsNumberTest when }
     ensures row { Does (instructions.Jump (test_of when) to) frames.old.newest result frames.new.newest }
@@ -21,10 +21,10 @@ pub fn jump<M: Copy>(frames: &mut Frames<M>, when: When, to: u32) -> Way
     ensures rests { Rests result frames.old frames.new }
 {
     match when {
-        When::Always => goto(frames, to),
-        When::If(c) => jump_if(frames, c, to),
-        When::IfInt(c) => jump_if_int(frames, c, to),
-        When::IfRef(_) => unreachable!(),
+        Condition::Always => goto(frames, to),
+        Condition::If(c) => jump_if(frames, c, to),
+        Condition::IfInt(c) => jump_if_int(frames, c, to),
+        Condition::IfRef(_) => unreachable!(),
     }
 }
 

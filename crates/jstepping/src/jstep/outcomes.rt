@@ -1,8 +1,8 @@
 ghost use Rattle.std.specs.Prelude.{◌≡◌};
-ghost use Rattle.jstepping.specs.jstep.Stepping;
+ghost use Rattle.jstepping.specs.jstep.StepRelation;
 
 use jlib::LibCall;
-use jprogram::ClassRef;
+use jresolution::jprogram::ClassRef;
 use jrows::jcalls::{Leaving, Raised};
 
 /// What a step came to.
@@ -27,7 +27,7 @@ pub enum Stepped {
 /// What a step came to that raised or threw an object of a class.
 #[inline]
 pub(crate) fn stepped_of(done: Raised, class: ClassRef) -> Stepped
-    ensures { result ≡ Stepping.stepped_as done class }
+    ensures { result ≡ StepRelation.stepped_as done class }
 {
     match done {
         Raised::Full => Stepped::Full,
@@ -39,7 +39,7 @@ pub(crate) fn stepped_of(done: Raised, class: ClassRef) -> Stepped
 /// What a step came to by what a return came to.
 #[inline]
 pub(crate) fn left_of(way: Leaving) -> Stepped
-    ensures { result ≡ Stepping.left_as way }
+    ensures { result ≡ StepRelation.left_as way }
 {
     match way {
         Leaving::Resumed => Stepped::Went,

@@ -1,21 +1,21 @@
 ghost use Rattle.std.specs.Prelude.{◌≡◌, IfOk, OnOk, length};
 ghost use Rattle.jlib.specs.declared.classes.LibClass.TheVariants as lib;
-ghost use Rattle.jmodel.specs.jstate.Celled.{StayCelled};
-ghost use Rattle.jmodel.specs.jstate.Framed.{all};
-ghost use Rattle.jmodel.specs.jstate.Seen.{AreBuilt};
-ghost use Rattle.jrows.specs.jcalls.Calling.{IsThrown};
-ghost use Rattle.jrows.specs.jcalls.Marks.{Stand};
-ghost use Rattle.jserving.specs.jshapes.Alike.{NamesNoMore};
-ghost use Rattle.jstepping.specs.jstep.Stepping.{IsQuiet, RaisesAs, StoodAs, ThrowsAs};
+ghost use Rattle.jruntime.specs.jstate.ObjectCells.{StayCelled};
+ghost use Rattle.jruntime.specs.jstate.FrameLists.{all};
+ghost use Rattle.jruntime.specs.jstate.HeapMeanings.{AreBuilt};
+ghost use Rattle.jrows.specs.jcalls.MethodCalls.{IsThrown};
+ghost use Rattle.jrows.specs.jcalls.FrameMarks.{Stand};
+ghost use Rattle.jserving.specs.jcells.ObjectEquivalence.{NamesNoMore};
+ghost use Rattle.jstepping.specs.jstep.StepRelation.{IsQuiet, RaisesAs, StoodAs, ThrowsAs};
 
 use crate::jstep::outcomes::{Stepped, stepped_of};
-use jheap::Heap;
 use jlib::{LibClass, Thrown};
-use jmodel::jstate::{Frames, heap_laws, thrown_number};
-use jprogram::ClassRef;
+use jmemory::jheap::Heap;
+use jresolution::jprogram::ClassRef;
 use jrows::jcalls::{raise, throw_object};
-use jserving::jinvoke::{Known, ThrownAs, class_laws, class_numbered, number_of, told_law};
-use jserving::jshapes::alike_laws;
+use jruntime::jstate::{Frames, heap_laws, thrown_number};
+use jserving::jcells::alike_laws;
+use jserving::jinvoke::{MethodLookup, ThrownAs, class_laws, class_numbered, number_of, told_law};
 use std::alloc::{AllocError, Global};
 
 /// A class of what can be thrown, as one.
@@ -31,14 +31,14 @@ pub fn thrown_class(class: LibClass) -> Thrown
 }
 
 /// Raises an exception of a class of the library, without a message.
-#[tactic(auto, using(crate::proofs::JstepProofs::Settled::stood, crate::proofs::JstepProofs::Settled::quiet_raised, crate::proofs::JstepProofs::Leaving::raised_names))]
+#[tactic(auto, using(crate::proofs::JstepProofs::RowCompletion::stood, crate::proofs::JstepProofs::RowCompletion::quiet_raised, crate::proofs::JstepProofs::ObjectPreservation::raised_names))]
 pub fn settle_raised<M: Copy>(
     alloc: Global,
     frames: &mut Frames<M>,
     heap: &mut Heap,
     class: Thrown,
     marks: &[M],
-    known: &Known<'_>,
+    known: &MethodLookup<'_>,
 ) -> Result<Stepped, AllocError>
     requires stand { Stand (length marks.now) (all frames.old) }
     requires built { AreBuilt heap.old.objects }
@@ -62,13 +62,13 @@ pub fn settle_raised<M: Copy>(
 }
 
 /// Throws the object of a number (JVMS 2.10), which is no array.
-#[tactic(auto, using(crate::proofs::JstepProofs::Settled::stood, crate::proofs::JstepProofs::Settled::quiet_raised, crate::proofs::JstepProofs::Settled::none_thrown, crate::proofs::JstepProofs::Settled::array_thrown))]
+#[tactic(auto, using(crate::proofs::JstepProofs::RowCompletion::stood, crate::proofs::JstepProofs::RowCompletion::quiet_raised, crate::proofs::JstepProofs::RowCompletion::none_thrown, crate::proofs::JstepProofs::RowCompletion::array_thrown))]
 pub fn settle_thrown<M: Copy>(
     frames: &mut Frames<M>,
     heap: &Heap,
     object: u32,
     marks: &[M],
-    known: &Known<'_>,
+    known: &MethodLookup<'_>,
 ) -> Result<Stepped, AllocError>
     requires stand { Stand (length marks.now) (all frames.old) }
     ensures row { IfOk result (λ done. ThrowsAs marks.now known.now object frames.old heap.now done frames.new) }

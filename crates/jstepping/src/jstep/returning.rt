@@ -1,17 +1,17 @@
 ghost use Rattle.std.specs.Prelude.{◌≡◌, IfOk, OnOk, Some, length};
-ghost use Rattle.jprogram.specs.Classes.{Program};
-ghost use Rattle.jmeaning.specs.juses.Instructions.{Return};
-ghost use Rattle.jrows.specs.jcalls.Marks.{Stand};
+ghost use Rattle.jresolution.specs.jprogram.ProgramClasses.{Program};
+ghost use Rattle.jresolution.specs.juses.IndexedInstructions.{Return};
+ghost use Rattle.jrows.specs.jcalls.FrameMarks.{Stand};
 ghost use Rattle.jrows.specs.jcalls.Returns.{StaysStanding};
-ghost use Rattle.jmodel.specs.jstate.Framed.{all};
-ghost use Rattle.jstepping.specs.jstep.Stepping.{Executes, ReturnsAs, StoodAs};
+ghost use Rattle.jruntime.specs.jstate.FrameLists.{all};
+ghost use Rattle.jstepping.specs.jstep.StepRelation.{Executes, ReturnsAs, StoodAs};
 
-use crate::jstep::fixed::Fixed;
 use crate::jstep::outcomes::{Stepped, left_of};
-use jheap::Heap;
-use jmodel::jstate::Frames;
+use crate::jstep::run_tables::RunTables;
+use jmemory::jheap::Heap;
 use jparts::jcode::Returned;
 use jrows::jcalls::{Counts, Leaving, return_int, return_long, return_nothing, return_ref};
+use jruntime::jstate::Frames;
 use std::alloc::AllocError;
 
 /// A return of a kind (JVMS 6.5: ireturn, lreturn, areturn, return).
@@ -40,7 +40,7 @@ fn return_kind<M: Copy>(
 pub(crate) fn step_return<M: Copy>(
     frames: &mut Frames<M>,
     heap: &Heap,
-    fixed: &Fixed<'_, '_, M>,
+    fixed: &RunTables<'_, '_, M>,
     counts: Counts,
     kind: Returned,
 ) -> Result<Stepped, AllocError>

@@ -1,32 +1,32 @@
 ghost use Rattle.std.specs.Prelude.{◌≡◌, ◌<◌, ◌+◌, ◌^◌, IfOk, OnOk};
-ghost use Rattle.jprogram.specs.Classes.{Program};
-ghost use Rattle.jready.specs.Laid.{Within};
-ghost use Rattle.jmodel.specs.jstate.Celled.{StayCelled};
-ghost use Rattle.jmodel.specs.jstate.Seen.{AreBuilt, Things};
-ghost use Rattle.jserving.specs.jshapes.Alike.{LeavesAlike};
-ghost use Rattle.jserving.specs.jshapes.Numbered.{AreRows};
-ghost use Rattle.jstepping.specs.jstep.Rows.{IsHere, Runs, Stays};
-ghost use Rattle.jrows.specs.jacts.Ways.{Rests};
+ghost use Rattle.jresolution.specs.jprogram.ProgramClasses.{Program};
+ghost use Rattle.jready.specs.CodeLayout.{Within};
+ghost use Rattle.jruntime.specs.jstate.ObjectCells.{StayCelled};
+ghost use Rattle.jruntime.specs.jstate.HeapMeanings.{AreBuilt, Things};
+ghost use Rattle.jserving.specs.jcells.ObjectEquivalence.{LeavesAlike};
+ghost use Rattle.jserving.specs.jcells.ArrayTypeNumbers.{AreRows};
+ghost use Rattle.jstepping.specs.jstep.InstructionRows.{IsHere, Runs, Stays};
+ghost use Rattle.jrows.specs.jacts.RowOutcomes.{Rests};
 
 use crate::jstep::arrays::array;
 use crate::jstep::computing::{plain, push};
-use crate::jstep::fixed::Fixed;
 use crate::jstep::jumps::{flow, lookup, table};
-use jheap::Heap;
-use jmodel::jstate::Frames;
+use crate::jstep::run_tables::RunTables;
+use jmemory::jheap::Heap;
 use jready::Instr;
 use jrows::jacts::{Way, local, stack};
-use jserving::jshapes::alike_laws;
+use jruntime::jstate::Frames;
+use jserving::jcells::alike_laws;
 use std::alloc::{AllocError, Global};
 
 /// The row of an instruction by number that is here.
 #[inline]
-#[tactic(auto, using(jrows::proofs::JactsProofs::Resting::same, jrows::proofs::JactsProofs::Resting::ok_same, crate::proofs::JstepProofs::Leaving::same_celled, crate::proofs::JstepProofs::Leaving::same_celled_if))]
+#[tactic(auto, using(jrows::proofs::JactsProofs::ArrayFailures::same, jrows::proofs::JactsProofs::ArrayFailures::ok_same, crate::proofs::JstepProofs::ObjectPreservation::same_celled, crate::proofs::JstepProofs::ObjectPreservation::same_celled_if))]
 fn run_row<M: Copy>(
     alloc: Global,
     frames: &mut Frames<M>,
     heap: &mut Heap,
-    fixed: &Fixed<'_, '_, M>,
+    fixed: &RunTables<'_, '_, M>,
     one: Instr,
 ) -> Result<Way, AllocError>
     requires place { frames.old.newest.place + 1 < 2 ^ 32 }
@@ -61,7 +61,7 @@ pub fn run<M: Copy>(
     alloc: Global,
     frames: &mut Frames<M>,
     heap: &mut Heap,
-    fixed: &Fixed<'_, '_, M>,
+    fixed: &RunTables<'_, '_, M>,
     one: Instr,
 ) -> Result<Way, AllocError>
     requires place { frames.old.newest.place + 1 < 2 ^ 32 }

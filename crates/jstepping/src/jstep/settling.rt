@@ -1,30 +1,30 @@
 ghost use Rattle.std.specs.Prelude.{IfOk, OnOk, length};
-ghost use Rattle.jmodel.specs.jstate.Celled.{StayCelled};
-ghost use Rattle.jmodel.specs.jstate.Seen.{AreBuilt};
-ghost use Rattle.jserving.specs.jshapes.Alike.{NamesNoMore};
-ghost use Rattle.jrows.specs.jcalls.Calling.{CallStands};
-ghost use Rattle.jstepping.specs.jstep.Rows.{MayRaise};
-ghost use Rattle.jstepping.specs.jstep.Stepping.{CallLeft, IsQuiet, Settles, SettlesCall, StandsFor, StaysStuck, StoodAs};
+ghost use Rattle.jruntime.specs.jstate.ObjectCells.{StayCelled};
+ghost use Rattle.jruntime.specs.jstate.HeapMeanings.{AreBuilt};
+ghost use Rattle.jserving.specs.jcells.ObjectEquivalence.{NamesNoMore};
+ghost use Rattle.jrows.specs.jcalls.MethodCalls.{CallStands};
+ghost use Rattle.jstepping.specs.jstep.InstructionRows.{MayRaise};
+ghost use Rattle.jstepping.specs.jstep.StepRelation.{CallLeft, IsQuiet, Settles, SettlesCall, StandsFor, StaysStuck, StoodAs};
 
 use crate::jstep::outcomes::Stepped;
 use crate::jstep::raising::{settle_raised, thrown_class};
-use jheap::Heap;
-use jmodel::jstate::Frames;
+use jmemory::jheap::Heap;
 use jrows::jacts::Way;
 use jrows::jcalls::Called;
-use jserving::jinvoke::Known;
+use jruntime::jstate::Frames;
+use jserving::jinvoke::MethodLookup;
 use std::alloc::{AllocError, Global};
 
 /// Does what a row left to do.
 #[inline]
-#[tactic(auto, using(crate::proofs::JstepProofs::Leaving::same_celled, crate::proofs::JstepProofs::Leaving::same_names))]
+#[tactic(auto, using(crate::proofs::JstepProofs::ObjectPreservation::same_celled, crate::proofs::JstepProofs::ObjectPreservation::same_names))]
 pub fn settle<M: Copy>(
     alloc: Global,
     frames: &mut Frames<M>,
     heap: &mut Heap,
     way: Way,
     marks: &[M],
-    known: &Known<'_>,
+    known: &MethodLookup<'_>,
 ) -> Result<Stepped, AllocError>
     requires raised { MayRaise way }
     requires stand { StandsFor (length marks.now) way frames.old }
@@ -50,7 +50,7 @@ pub fn settle<M: Copy>(
 
 /// Does what a call of so many operands left to do.
 #[inline]
-#[tactic(auto, using(crate::proofs::JstepProofs::Leaving::same_celled, crate::proofs::JstepProofs::Leaving::same_names))]
+#[tactic(auto, using(crate::proofs::JstepProofs::ObjectPreservation::same_celled, crate::proofs::JstepProofs::ObjectPreservation::same_names))]
 pub fn settle_call<M: Copy>(
     alloc: Global,
     frames: &mut Frames<M>,
@@ -58,7 +58,7 @@ pub fn settle_call<M: Copy>(
     called: Called,
     count: usize,
     marks: &[M],
-    known: &Known<'_>,
+    known: &MethodLookup<'_>,
 ) -> Result<Stepped, AllocError>
     requires left { CallLeft called count frames.old }
     requires stand { CallStands (length marks.now) called frames.old }

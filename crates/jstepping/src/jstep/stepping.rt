@@ -1,30 +1,30 @@
 ghost use Rattle.std.specs.Prelude.{◌≡◌, IfOk, OnOk, length};
-ghost use Rattle.jready.specs.Exact.{Exact};
-ghost use Rattle.jready.specs.Laid.{Within};
-ghost use Rattle.jready.specs.Meant.{meant};
+ghost use Rattle.jready.specs.InlineOperands.{Exact};
+ghost use Rattle.jready.specs.CodeLayout.{Within};
+ghost use Rattle.jready.specs.DecodedInstructions.{meant};
 ghost use Rattle.jready.specs.declared.instr.Instr.TheVariants as instrs;
-ghost use Rattle.jmodel.specs.jmachine.Steps.{fetched};
-ghost use Rattle.jmodel.specs.jstate.Framed.{all};
-ghost use Rattle.jmodel.specs.jstate.Celled.{StayCelled};
-ghost use Rattle.jmodel.specs.jstate.Seen.{AreBuilt, Things};
+ghost use Rattle.jsemantics.specs.jmachine.MachineSteps.{fetched};
+ghost use Rattle.jruntime.specs.jstate.FrameLists.{all};
+ghost use Rattle.jruntime.specs.jstate.ObjectCells.{StayCelled};
+ghost use Rattle.jruntime.specs.jstate.HeapMeanings.{AreBuilt, Things};
 ghost use Rattle.jrows.specs.declared.jcalls.ready.Counts.{Counts as CountsOf};
-ghost use Rattle.jrows.specs.jcalls.Marks.{Stand};
-ghost use Rattle.jstepping.specs.jstep.Rows.{IsHere};
-ghost use Rattle.jstepping.specs.jstep.Stepping.{Executes, IsFixed, IsFlowStep, IsStep, Steps, StepsAlike, StoodAs};
+ghost use Rattle.jrows.specs.jcalls.FrameMarks.{Stand};
+ghost use Rattle.jstepping.specs.jstep.InstructionRows.{IsHere};
+ghost use Rattle.jstepping.specs.jstep.StepRelation.{Executes, IsFixed, IsFlowStep, IsStep, Steps, StepsAlike, StoodAs};
 
 use crate::jstep::calling::step_call;
-use crate::jstep::fixed::Fixed;
 use crate::jstep::laws::behind_laws;
 use crate::jstep::outcomes::Stepped;
 use crate::jstep::returning::step_return;
 use crate::jstep::rows::run;
+use crate::jstep::run_tables::RunTables;
 use crate::jstep::settling::settle;
 use crate::jstep::throwing::step_throw;
-use jheap::Heap;
-use jmodel::jstate::Frames;
+use jmemory::jheap::Heap;
 use jready::{FlowInstr, Instr};
 use jrows::jcalls::Counts;
-use jserving::jinvoke::{Calls, Known, step_laws, within_laws};
+use jruntime::jstate::Frames;
+use jserving::jinvoke::{Calls, MethodLookup, step_laws, within_laws};
 use std::alloc::{AllocError, Global};
 
 /// A step with a row.
@@ -33,8 +33,8 @@ fn step_row<M: Copy>(
     alloc: Global,
     frames: &mut Frames<M>,
     heap: &mut Heap,
-    fixed: &Fixed<'_, '_, M>,
-    known: &Known<'_>,
+    fixed: &RunTables<'_, '_, M>,
+    known: &MethodLookup<'_>,
     one: Instr,
 ) -> Result<Stepped, AllocError>
     requires fixed { IsFixed known.now fixed.now }
@@ -57,13 +57,13 @@ fn step_row<M: Copy>(
 
 /// A step that says where the method goes on.
 #[inline]
-#[tactic(auto, using(crate::proofs::JstepProofs::Leaving::same_celled, crate::proofs::JstepProofs::Leaving::same_celled_if))]
+#[tactic(auto, using(crate::proofs::JstepProofs::ObjectPreservation::same_celled, crate::proofs::JstepProofs::ObjectPreservation::same_celled_if))]
 fn step_flow<M: Copy>(
     alloc: Global,
     frames: &mut Frames<M>,
     heap: &mut Heap,
-    fixed: &Fixed<'_, '_, M>,
-    known: &Known<'_>,
+    fixed: &RunTables<'_, '_, M>,
+    known: &MethodLookup<'_>,
     counts: Counts,
     f: FlowInstr,
 ) -> Result<Stepped, AllocError>
@@ -89,12 +89,12 @@ fn step_flow<M: Copy>(
 /// A step of a thread, whose newest frame stands at an instruction that is here. A call is remembered by the number of its site, which may
 /// be any.
 #[inline(always)]
-#[tactic(auto, using(crate::proofs::JstepProofs::Leaving::same_celled, crate::proofs::JstepProofs::Leaving::same_celled_if))]
+#[tactic(auto, using(crate::proofs::JstepProofs::ObjectPreservation::same_celled, crate::proofs::JstepProofs::ObjectPreservation::same_celled_if))]
 pub fn step<M: Copy>(
     alloc: Global,
     frames: &mut Frames<M>,
     heap: &mut Heap,
-    fixed: &Fixed<'_, '_, M>,
+    fixed: &RunTables<'_, '_, M>,
     calls: &mut Calls<'_>,
     counts: Counts,
     one: Instr,

@@ -1,25 +1,25 @@
 ghost use Rattle.std.specs.Prelude.{◌≡◌, IfOk, OnOk, Some, length, slice_get};
-ghost use Rattle.jmeaning.specs.juses.Instructions as instructions;
-ghost use Rattle.jrows.specs.jobjs.Branching.{ref_in};
-ghost use Rattle.jmodel.specs.jstate.Celled.{StayCelled};
-ghost use Rattle.jmodel.specs.jstate.Framed.{all};
-ghost use Rattle.jmodel.specs.jstate.Seen.{AreBuilt};
-ghost use Rattle.jrows.specs.jcalls.Marks.{Stand};
-ghost use Rattle.jserving.specs.jshapes.Alike.{NamesNoMore};
-ghost use Rattle.jstepping.specs.jstep.Stepping.{Executes, IsFixed, StoodAs};
-ghost use Rattle.jstepping.specs.jstep.Serving.{ServesThrown};
+ghost use Rattle.jresolution.specs.juses.IndexedInstructions as instructions;
+ghost use Rattle.jrows.specs.jobjs.ReferenceBranches.{ref_in};
+ghost use Rattle.jruntime.specs.jstate.ObjectCells.{StayCelled};
+ghost use Rattle.jruntime.specs.jstate.FrameLists.{all};
+ghost use Rattle.jruntime.specs.jstate.HeapMeanings.{AreBuilt};
+ghost use Rattle.jrows.specs.jcalls.FrameMarks.{Stand};
+ghost use Rattle.jserving.specs.jcells.ObjectEquivalence.{NamesNoMore};
+ghost use Rattle.jstepping.specs.jstep.StepRelation.{Executes, IsFixed, StoodAs};
+ghost use Rattle.jstepping.specs.jstep.HeapOperands.{ServesThrown};
 
-use crate::jstep::fixed::Fixed;
 use crate::jstep::laws::behind_laws;
 use crate::jstep::outcomes::Stepped;
 use crate::jstep::raising::{settle_raised, settle_thrown};
-use jground::jops::Value;
-use jheap::Heap;
+use crate::jstep::run_tables::RunTables;
 use jlib::Thrown;
-use jmodel::jstate::{Frames, heap_laws};
+use jmemory::jheap::Heap;
 use jrows::jcalls::Counts;
-use jserving::jinvoke::Known;
+use jruntime::jstate::{Frames, heap_laws};
+use jserving::jinvoke::MethodLookup;
 use jserving::jserve::{Objects, thrown_serves};
+use jvalues::jops::Value;
 use std::alloc::{AllocError, Global};
 
 /// The number of the reference that is the newest operand.
@@ -43,7 +43,7 @@ fn newest_ref<M: Copy>(frames: &Frames<M>) -> Option<u32>
 fn serves<M: Copy>(
     frames: &Frames<M>,
     heap: &Heap,
-    fixed: &Fixed<'_, '_, M>,
+    fixed: &RunTables<'_, '_, M>,
     counts: Counts,
 ) -> bool
     ensures { ServesThrown fixed.now.ancestors.now fixed.now.shapes.now counts heap.now frames.now.newest.operands result }
@@ -57,13 +57,13 @@ fn serves<M: Copy>(
 }
 
 /// A step that throws (JVMS 6.5: athrow).
-#[tactic(auto, using(crate::proofs::JstepProofs::Leaving::same_celled, crate::proofs::JstepProofs::Leaving::same_names, crate::proofs::JstepProofs::Leaving::same_celled_if, crate::proofs::JstepProofs::Leaving::same_names_if))]
+#[tactic(auto, using(crate::proofs::JstepProofs::ObjectPreservation::same_celled, crate::proofs::JstepProofs::ObjectPreservation::same_names, crate::proofs::JstepProofs::ObjectPreservation::same_celled_if, crate::proofs::JstepProofs::ObjectPreservation::same_names_if))]
 pub(crate) fn step_throw<M: Copy>(
     alloc: Global,
     frames: &mut Frames<M>,
     heap: &mut Heap,
-    fixed: &Fixed<'_, '_, M>,
-    known: &Known<'_>,
+    fixed: &RunTables<'_, '_, M>,
+    known: &MethodLookup<'_>,
     counts: Counts,
 ) -> Result<Stepped, AllocError>
     requires fixed { IsFixed known.now fixed.now }

@@ -2,7 +2,7 @@ use Rattle.std.proofs.Common.{◌≡◌, List, ℕ, false, sym, ap, ◌∙◌}
 use Rattle.std.specs.Prelude.{is_some}
 use Rattle.std.specs.Str.{bytes_eq}
 use Rattle.indexmap.specs.IndexMap.{get_by}
-use Rattle.jadder.proofs.Numbered.{noted, notes_none, put_last}
+use Rattle.jadder.proofs.NumberedPools.{noted, notes_none, put_last}
 use Rattle.jadder.proofs.adder.note.Goals as goal
 
 pub returns : goal.returns

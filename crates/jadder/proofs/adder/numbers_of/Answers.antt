@@ -1,6 +1,6 @@
 use Rattle.std.proofs.Common.{arith}
-use Rattle.jparts.proofs.JpoolProofs.Grown.{laid_count}
-use Rattle.jadder.proofs.Numbered.{least_next, spelled_or_none}
+use Rattle.jparts.proofs.JpoolProofs.PoolExtension.{laid_count}
+use Rattle.jadder.proofs.NumberedPools.{least_next, spelled_or_none}
 use Rattle.jadder.proofs.adder.numbers_of.Goals as goal
 
 pub overflow_cast-i : goal.overflow_cast-i

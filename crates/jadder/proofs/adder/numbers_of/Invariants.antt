@@ -1,5 +1,5 @@
 use Rattle.std.proofs.Common.{take}
-use Rattle.jadder.specs.Numbers.{AreLeast}
+use Rattle.jadder.specs.ConstantNumbers.{AreLeast}
 use Rattle.jadder.proofs.adder.numbers_of.Given as goal
 
 abbrev pub invariant-loop-i : goal.invariant-loop-i

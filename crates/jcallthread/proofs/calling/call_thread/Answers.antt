@@ -1,12 +1,12 @@
 use Rattle.std.proofs.Common.{rules}
 use Rattle.std.specs.Prelude.{take}
-use Rattle.jmodel.specs.jmachine.Steps.{site_of}
-use Rattle.jlibcalls.specs.jthreading.Laws.{IsNoInit}
-use Rattle.jmodel.proofs.JguardProofs.Once.{asked_nothing}
+use Rattle.jsemantics.specs.jmachine.MachineSteps.{site_of}
+use Rattle.jlibcalls.specs.jthreading.ThreadLaws.{IsNoInit}
+use Rattle.jguard.proofs.SingleAsks.{asked_nothing}
 use Rattle.jlib.specs.declared.calls.LibCall.TheVariants as calls
-use Rattle.jstepping.specs.jcore.Answering.{asked_of}
-use Rattle.jstepping.specs.jcore.Machines.{state_of, store_of}
-use Rattle.jcallthread.proofs.Made.{none_answered}
+use Rattle.jstepping.specs.jcore.AnsweredCalls.{asked_of}
+use Rattle.jstepping.specs.jcore.MachineInvariants.{state_of, store_of}
+use Rattle.jcallthread.proofs.ConstructorCalls.{none_answered}
 use Rattle.jcallthread.proofs.calling.call_thread.Goals as goal
 
 pub returns-in_ok-done-in_default-clause-answered : goal.returns-in_ok-done-in_default-clause-answered

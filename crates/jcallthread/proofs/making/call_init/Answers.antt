@@ -1,10 +1,10 @@
-use Rattle.jmodel.specs.jmachine.Asked.{Inherits}
+use Rattle.jsemantics.specs.jmachine.AccessQueries.{Inherits}
 use Rattle.jlib.specs.declared.calls.LibCall.TheVariants as calls
 use Rattle.jlib.specs.declared.calls.ThreadCall.TheVariants as threads
-use Rattle.jmodel.proofs.JguardProofs.Once.{asked_nothing, asked_once}
-use Rattle.jstepping.specs.jcore.Answering.{asked_of}
-use Rattle.jcallthread.proofs.Made.{init_asked, init_asks, init_silent, made_answered, made_ready, stuck_answered}
-use Rattle.jcallthread.proofs.Standing.{may_call}
+use Rattle.jguard.proofs.SingleAsks.{asked_nothing, asked_once}
+use Rattle.jstepping.specs.jcore.AnsweredCalls.{asked_of}
+use Rattle.jcallthread.proofs.ConstructorCalls.{init_asked, init_asks, init_silent, made_answered, made_ready, stuck_answered}
+use Rattle.jcallthread.proofs.ThreadInvariants.{may_call}
 use Rattle.jcallthread.proofs.making.call_init.Goals as goal
 
 pub named_by-requires : goal.named_by-requires

@@ -1,5 +1,5 @@
-use Rattle.jcallthread.proofs.Made.{makes_in}
-use Rattle.jcallthread.proofs.Standing.{may_call}
+use Rattle.jcallthread.proofs.ConstructorCalls.{makes_in}
+use Rattle.jcallthread.proofs.ThreadInvariants.{may_call}
 use Rattle.jcallthread.proofs.making.make_thread.Goals as goal
 
 pub make-requires-clause-are : goal.make-requires-clause-are

@@ -1,8 +1,8 @@
 use Rattle.std.proofs.Common.{List, refl, subst}
-use Rattle.jrights.specs.declared.jtrace.event.Event.{Event}
+use Rattle.joutput.specs.declared.jtrace.event.Event.{Event}
 use Rattle.jlibcalls.specs.declared.jthreading.switching.Threaded.TheVariants as threaded
-use Rattle.jstepping.specs.jcore.Raising.{RaisesIn}
-use Rattle.jcallthread.proofs.Turned.{as_raised, raised_comes, raised_lives, raised_machine, raised_stands, turned_comes, turned_ready}
+use Rattle.jstepping.specs.jcore.RaiseOutcomes.{RaisesIn}
+use Rattle.jcallthread.proofs.ThreadCalls.{as_raised, raised_comes, raised_lives, raised_machine, raised_stands, turned_comes, turned_ready}
 use Rattle.jcallthread.proofs.turning.call_turn.Goals as goal
 
 pub raise-requires-clause-machine : goal.raise-requires-clause-machine

@@ -1,5 +1,5 @@
 use Rattle.jlib.specs.declared.calls.ThreadCall.TheVariants as threads
-use Rattle.jcallthread.proofs.Turned.{turns_on}
+use Rattle.jcallthread.proofs.ThreadCalls.{turns_on}
 use Rattle.jcallthread.proofs.turning.turn_threads.Goals as goal
 
 pub returns-in_ok-done-in-Yield-clause-row : goal.returns-in_ok-done-in-Yield-clause-row

@@ -1,5 +1,5 @@
 use Rattle.std.proofs.Common.{arith}
-use Rattle.jparts.specs.jmaps.Frames.{frames, frame}
+use Rattle.jparts.specs.jmaps.StackMapFormat.{frames, frame}
 use Rattle.jclass.proofs.CodeLaws.{maps_good}
 use Rattle.jclass.proofs.code.maps_of.Goals as goal
 

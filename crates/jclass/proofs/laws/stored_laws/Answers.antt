@@ -1,5 +1,5 @@
 use Rattle.jparts.proofs.JcodeProofs.Places.{fit_rises}
-use Rattle.jclass.proofs.Stored.{code_fits, code_items, code_leads, code_frames, code_branches, text_is_modified}
+use Rattle.jclass.proofs.FittingClasses.{code_fits, code_items, code_leads, code_frames, code_branches, text_is_modified}
 use Rattle.jclass.proofs.laws.stored_laws.Goals as goal
 
 pub returns-clause-code : goal.returns-clause-code

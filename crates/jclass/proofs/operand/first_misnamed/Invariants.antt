@@ -1,6 +1,6 @@
 use Rattle.std.proofs.Common.{◌≡◌, drop}
-use Rattle.jground.specs.jbase.First.{first_some}
-use Rattle.jclass.specs.Operands.{misnamed}
+use Rattle.jground.specs.jbase.FirstFaults.{first_some}
+use Rattle.jclass.specs.PoolOperands.{misnamed}
 use Rattle.jclass.proofs.operand.first_misnamed.Given as goal
 
 abbrev pub invariant-loop-one : goal.invariant-loop-one

@@ -1,7 +1,7 @@
 use Rattle.std.proofs.Common.{subst}
-use Rattle.jground.specs.jbase.Stops.{Gives}
-use Rattle.jclass.specs.Basics.{u2}
-use Rattle.jclass.proofs.Unseen.{counted_unseen}
+use Rattle.jground.specs.jbase.MemoryFailures.{Gives}
+use Rattle.jclass.specs.IndexFormats.{u2}
+use Rattle.jclass.proofs.SkippedValues.{counted_unseen}
 use Rattle.jclass.proofs.shape.skip_indices.Goals as goal
 
 pub returns : goal.returns

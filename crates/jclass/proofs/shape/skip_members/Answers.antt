@@ -1,9 +1,9 @@
 use Rattle.std.proofs.Common.{subst}
-use Rattle.jground.specs.jbase.Stops.{Gives}
-use Rattle.jclass.specs.Basics.{u2}
-use Rattle.jclass.specs.Shapes
-use Rattle.jclass.proofs.Unseen.{counted_unseen}
+use Rattle.jground.specs.jbase.MemoryFailures.{Gives}
+use Rattle.jclass.specs.IndexFormats.{u2}
+use Rattle.jclass.specs.ClassFileShape
+use Rattle.jclass.proofs.SkippedValues.{counted_unseen}
 use Rattle.jclass.proofs.shape.skip_members.Goals as goal
 
 pub returns : goal.returns
-returns c = subst (λ f. Gives (λ x. (tt, x.now)) c.skip_counted.result f) (counted_unseen u2.read Shapes.member.read c.args.bytes.now) c.skip_counted.ensures
+returns c = subst (λ f. Gives (λ x. (tt, x.now)) c.skip_counted.result f) (counted_unseen u2.read ClassFileShape.member.read c.args.bytes.now) c.skip_counted.ensures

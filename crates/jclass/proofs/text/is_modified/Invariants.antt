@@ -1,5 +1,5 @@
 use Rattle.std.proofs.Common.{◌≡◌, ◌-◌, length}
-use Rattle.jclass.specs.Judging.{is_modified}
+use Rattle.jclass.specs.PoolChecks.{is_modified}
 use Rattle.jclass.proofs.Texts.{rest_is_text}
 use Rattle.jclass.proofs.text.is_modified.Given as goal
 

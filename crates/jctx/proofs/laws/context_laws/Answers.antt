@@ -2,11 +2,11 @@ use Rattle.std.proofs.Common.{◌≤◌, ◌∷◌, ◌++◌, subst}
 use Rattle.std.proofs.lemmas.List.{length-map}
 use Rattle.jctx.specs.Contexts.{limited}
 use Rattle.jctx.specs.ProofNames.{given_items}
-use Rattle.jctx.specs.Items.{plain}
-use Rattle.jctx.proofs.Along.{verdict-along}
-use Rattle.jctx.proofs.Kept.{keep-keep, distinct_domains-keep, length-keep, along_kept}
+use Rattle.jctx.specs.ContextItems.{plain}
+use Rattle.jctx.proofs.StackVerdicts.{verdict-along}
+use Rattle.jctx.proofs.MinimalContexts.{keep-keep, distinct_domains-keep, length-keep, along_kept}
 use Rattle.jctx.proofs.Growth.{enter_same}
-use Rattle.jctx.proofs.Limiting.{privileged-entered}
+use Rattle.jctx.proofs.LimitedPrivileges.{privileged-entered}
 use Rattle.jctx.proofs.laws.context_laws.Goals as goal
 
 pub returns-clause-decides : goal.returns-clause-decides

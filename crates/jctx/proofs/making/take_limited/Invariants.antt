@@ -1,6 +1,6 @@
 use Rattle.std.proofs.Common.{◌≡◌, drop, map}
-use Rattle.jctx.specs.Items.{with_limits}
-use Rattle.jctx.specs.Growing.{joined}
+use Rattle.jctx.specs.ContextItems.{with_limits}
+use Rattle.jctx.specs.ContextGrowth.{joined}
 use Rattle.jctx.proofs.making.take_limited.Given as goal
 
 -- adding what is left gives what adding all gives

@@ -1,5 +1,5 @@
 use Rattle.std.proofs.Common.{◌≡◌, drop}
-use Rattle.jctx.specs.Growing.{joined}
+use Rattle.jctx.specs.ContextGrowth.{joined}
 use Rattle.jctx.proofs.making.take_over.Given as goal
 
 -- adding what is left gives what adding all gives

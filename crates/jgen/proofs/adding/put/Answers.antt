@@ -1,4 +1,4 @@
-use Rattle.jgen.proofs.Putting.{entry_put, not_full}
+use Rattle.jgen.proofs.PoolAdditions.{entry_put, not_full}
 use Rattle.jgen.proofs.adding.put.Goals as goal
 
 pub unreachable-requires : goal.unreachable-requires

@@ -1,6 +1,6 @@
 use Rattle.jparts.specs.declared.jpool.entry.Entry.TheVariants.{NameAndType}
-use Rattle.jmove.specs.Additions.{with_entry, with_member, with_text, ◌>>◌}
-use Rattle.jgen.proofs.Putting.{then_puts}
+use Rattle.jmove.specs.PoolAdditions.{with_entry, with_member, with_text, ◌>>◌}
+use Rattle.jgen.proofs.PoolAdditions.{then_puts}
 use Rattle.jgen.proofs.adding.put_both.Goals as goal
 
 pub returns : goal.returns

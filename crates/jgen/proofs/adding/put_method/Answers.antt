@@ -1,7 +1,7 @@
 use Rattle.jparts.specs.declared.jpool.entry.Entry.TheVariants.{Method}
-use Rattle.jmove.specs.Additions.{with_class, with_entry, with_member, ◌>>◌}
-use Rattle.jgen.specs.Items.{with_method}
-use Rattle.jgen.proofs.Putting.{then_puts}
+use Rattle.jmove.specs.PoolAdditions.{with_class, with_entry, with_member, ◌>>◌}
+use Rattle.jgen.specs.ClassFileItems.{with_method}
+use Rattle.jgen.proofs.PoolAdditions.{then_puts}
 use Rattle.jgen.proofs.adding.put_method.Goals as goal
 
 pub returns : goal.returns

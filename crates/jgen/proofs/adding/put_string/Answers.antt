@@ -1,7 +1,7 @@
 use Rattle.jparts.specs.declared.jpool.entry.Entry.TheVariants.{Str}
-use Rattle.jmove.specs.Additions.{with_entry, with_text}
-use Rattle.jgen.specs.Items.{with_string}
-use Rattle.jgen.proofs.Putting.{then_puts}
+use Rattle.jmove.specs.PoolAdditions.{with_entry, with_text}
+use Rattle.jgen.specs.ClassFileItems.{with_string}
+use Rattle.jgen.proofs.PoolAdditions.{then_puts}
 use Rattle.jgen.proofs.adding.put_string.Goals as goal
 
 pub returns : goal.returns

@@ -1,4 +1,4 @@
-use Rattle.jgen.proofs.Putting.{text_there}
+use Rattle.jgen.proofs.PoolAdditions.{text_there}
 use Rattle.jgen.proofs.adding.put_text.Goals as goal
 
 pub returns-clause-there : goal.returns-clause-there

@@ -1,8 +1,8 @@
 use Rattle.std.proofs.Common.{List, ◌++◌, ◌∷◌, [], ap, subst, sym, ◌∙◌}
 use Rattle.jparts.specs.declared.jpool.entry.Entry.{Entry}
 use Rattle.jparts.specs.declared.jpool.entry.Entry.TheVariants.{Unused}
-use Rattle.jparts.specs.jpool.Pools.{IsPool}
-use Rattle.jgen.proofs.Parting.{blank_pool}
+use Rattle.jparts.specs.jpool.ConstantPools.{IsPool}
+use Rattle.jgen.proofs.MethodParts.{blank_pool}
 use Rattle.jgen.proofs.class.blank.Goals as goal
 
 pub from_entries-requires : goal.from_entries-requires

@@ -1,5 +1,5 @@
 use Rattle.std.proofs.Common.{arith, ◌∙◌}
-use Rattle.jgen.proofs.Parting.{calls_end, calls_next}
+use Rattle.jgen.proofs.MethodParts.{calls_end, calls_next}
 use Rattle.jgen.proofs.class.put_calls.Goals as goal
 
 pub put_call-requires-clause-room : goal.put_call-requires-clause-room

@@ -1,6 +1,6 @@
 use Rattle.std.proofs.Common.{◌≡◌, ◌≤◌, ◌+◌, ◌*◌, ◌-◌, length}
-use Rattle.jgen.specs.Classes.{calls}
-use Rattle.jgen.specs.Items.{with_items}
+use Rattle.jgen.specs.GeneratedClasses.{calls}
+use Rattle.jgen.specs.ClassFileItems.{with_items}
 use Rattle.jgen.proofs.class.put_calls.Given as goal
 
 abbrev pub invariant-loop-i : goal.invariant-loop-i

@@ -1,5 +1,5 @@
 use Rattle.std.proofs.Common.{◌∙◌}
-use Rattle.jgen.proofs.Parting.{class_is}
+use Rattle.jgen.proofs.MethodParts.{class_is}
 use Rattle.jgen.proofs.class.put_class.Goals as goal
 
 pub returns : goal.returns

@@ -1,5 +1,5 @@
 use Rattle.std.proofs.Common.{arith}
-use Rattle.jgen.proofs.Parting.{main_is}
+use Rattle.jgen.proofs.MethodParts.{main_is}
 use Rattle.jgen.proofs.class.put_main.Goals as goal
 
 pub put_main_end-requires : goal.put_main_end-requires

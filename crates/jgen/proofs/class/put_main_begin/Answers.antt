@@ -1,6 +1,6 @@
 use Rattle.std.proofs.Common.{length}
-use Rattle.jgen.specs.Items.{most_of, widths}
-use Rattle.jgen.proofs.Parting.{main_room}
+use Rattle.jgen.specs.ClassFileItems.{most_of, widths}
+use Rattle.jgen.proofs.MethodParts.{main_room}
 use Rattle.jgen.proofs.class.put_main_begin.Goals as goal
 
 pub put_pieces-requires : goal.put_pieces-requires

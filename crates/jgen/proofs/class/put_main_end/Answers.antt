@@ -1,6 +1,6 @@
 use Rattle.std.proofs.Common.{length}
-use Rattle.jgen.specs.Items.{widths}
-use Rattle.jgen.proofs.Parting.{end_room}
+use Rattle.jgen.specs.ClassFileItems.{widths}
+use Rattle.jgen.proofs.MethodParts.{end_room}
 use Rattle.jgen.proofs.class.put_main_end.Goals as goal
 
 pub put_pieces-requires : goal.put_pieces-requires

@@ -1,5 +1,5 @@
 use Rattle.std.proofs.lemmas.Bool.{ne_eqb}
-use Rattle.jgen.proofs.Parting.{no_main}
+use Rattle.jgen.proofs.MethodParts.{no_main}
 use Rattle.jgen.proofs.class.put_main_of.Goals as goal
 
 pub returns : goal.returns

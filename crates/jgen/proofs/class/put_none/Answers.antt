@@ -1,6 +1,6 @@
 use Rattle.std.specs.Int.{w16, to_be_bytes}
-use Rattle.jgen.specs.Items.{with_item, with_items}
-use Rattle.jgen.proofs.Putting.{bytes_put}
+use Rattle.jgen.specs.ClassFileItems.{with_item, with_items}
+use Rattle.jgen.proofs.PoolAdditions.{bytes_put}
 use Rattle.jgen.proofs.class.put_none.Goals as goal
 
 pub returns : goal.returns

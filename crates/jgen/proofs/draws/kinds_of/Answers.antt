@@ -1,5 +1,5 @@
 use Rattle.std.proofs.Common.{arith}
-use Rattle.jgen.proofs.Drawing.{all_length, kinds_end, kinds_next, state_next, state_three}
+use Rattle.jgen.proofs.DrawnKinds.{all_length, kinds_end, kinds_next, state_next, state_three}
 use Rattle.jgen.proofs.draws.kinds_of.Goals as goal
 
 pub next-one-requires : goal.next-one-requires

@@ -1,6 +1,6 @@
-use Rattle.jmove.specs.Additions.{with_class}
-use Rattle.jgen.specs.Items.{with_item}
-use Rattle.jgen.proofs.Putting.{index_put}
+use Rattle.jmove.specs.PoolAdditions.{with_class}
+use Rattle.jgen.specs.ClassFileItems.{with_item}
+use Rattle.jgen.proofs.PoolAdditions.{index_put}
 use Rattle.jgen.proofs.laying.put_class_index.Goals as goal
 
 pub returns-clause-value : goal.returns-clause-value

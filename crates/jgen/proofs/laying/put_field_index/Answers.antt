@@ -1,5 +1,5 @@
-use Rattle.jgen.specs.Items.{with_field, with_item}
-use Rattle.jgen.proofs.Putting.{index_put}
+use Rattle.jgen.specs.ClassFileItems.{with_field, with_item}
+use Rattle.jgen.proofs.PoolAdditions.{index_put}
 use Rattle.jgen.proofs.laying.put_field_index.Goals as goal
 
 pub returns-clause-value : goal.returns-clause-value

@@ -1,5 +1,5 @@
 use Rattle.std.proofs.Common.{◌+◌, arith, map, length}
-use Rattle.jgen.specs.Items.{item_of, most_of}
+use Rattle.jgen.specs.ClassFileItems.{item_of, most_of}
 use Rattle.jgen.proofs.Rooms.{few_next, items_end, items_next, room_here, room_next}
 use Rattle.jgen.proofs.laying.put_pieces.Goals as goal
 

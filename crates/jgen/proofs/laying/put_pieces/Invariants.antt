@@ -1,6 +1,6 @@
 use Rattle.std.proofs.Common.{◌≡◌, ◌≤◌, ◌+◌, map, length, drop}
 use Rattle.std.specs.Prelude.{IsTrue}
-use Rattle.jgen.specs.Items.{have_room, item_of, most_of, with_items}
+use Rattle.jgen.specs.ClassFileItems.{have_room, item_of, most_of, with_items}
 use Rattle.jgen.proofs.laying.put_pieces.Given as goal
 
 abbrev pub invariant-loop-piece : goal.invariant-loop-piece

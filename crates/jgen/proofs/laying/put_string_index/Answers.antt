@@ -1,5 +1,5 @@
-use Rattle.jgen.specs.Items.{with_string, with_item}
-use Rattle.jgen.proofs.Putting.{small_put}
+use Rattle.jgen.specs.ClassFileItems.{with_string, with_item}
+use Rattle.jgen.proofs.PoolAdditions.{small_put}
 use Rattle.jgen.proofs.laying.put_string_index.Goals as goal
 
 pub returns-clause-value : goal.returns-clause-value

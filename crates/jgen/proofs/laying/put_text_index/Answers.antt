@@ -1,6 +1,6 @@
-use Rattle.jmove.specs.Additions.{with_text}
-use Rattle.jgen.specs.Items.{with_item}
-use Rattle.jgen.proofs.Putting.{index_put}
+use Rattle.jmove.specs.PoolAdditions.{with_text}
+use Rattle.jgen.specs.ClassFileItems.{with_item}
+use Rattle.jgen.proofs.PoolAdditions.{index_put}
 use Rattle.jgen.proofs.laying.put_text_index.Goals as goal
 
 pub returns-clause-value : goal.returns-clause-value

@@ -1,5 +1,5 @@
 use Rattle.std.proofs.Common.{arith}
-use Rattle.jgen.proofs.Filing.{files_end, files_next}
+use Rattle.jgen.proofs.FileLists.{files_end, files_next}
 use Rattle.jgen.proofs.making.put_classes.Goals as goal
 
 pub loop-i-preserved : goal.loop-i-preserved

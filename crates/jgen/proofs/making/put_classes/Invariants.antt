@@ -1,5 +1,5 @@
 use Rattle.std.proofs.Common.{◌≡◌, ◌++◌, drop}
-use Rattle.jgen.specs.Files.{class_files}
+use Rattle.jgen.specs.GeneratedFiles.{class_files}
 use Rattle.jgen.proofs.making.put_classes.Given as goal
 
 abbrev pub invariant-loop-i : goal.invariant-loop-i

@@ -1,7 +1,7 @@
 use Rattle.std.proofs.Common.{◌++◌}
-use Rattle.jgen.specs.Classes.{privileged_code}
-use Rattle.jgen.specs.Items.{widths}
-use Rattle.jgen.specs.Parts.{check_part, handler_part}
+use Rattle.jgen.specs.GeneratedClasses.{privileged_code}
+use Rattle.jgen.specs.ClassFileItems.{widths}
+use Rattle.jgen.specs.MethodParts.{check_part, handler_part}
 use Rattle.jgen.proofs.Rooms.{items_on, then_items}
 use Rattle.jgen.proofs.methods.put_privileged.Goals as goal
 

@@ -1,6 +1,6 @@
 use Rattle.std.proofs.Common.{arith, ap, ◌∙◌, ◌++◌, ◌≤◌, List, ℕ, length, subst, sym}
-use Rattle.jgen.specs.Classes.{name}
-use Rattle.jgen.proofs.Writing.{name_short}
+use Rattle.jgen.specs.GeneratedClasses.{name}
+use Rattle.jgen.proofs.TextConcatenation.{name_short}
 use Rattle.jgen.proofs.texts.name_of.Goals as goal
 
 pub returns-clause-name : goal.returns-clause-name

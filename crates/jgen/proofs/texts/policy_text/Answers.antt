@@ -1,5 +1,5 @@
 use Rattle.std.proofs.Common.{arith}
-use Rattle.jgen.proofs.Writing.{grants_end, grants_next}
+use Rattle.jgen.proofs.TextConcatenation.{grants_end, grants_next}
 use Rattle.jgen.proofs.texts.policy_text.Goals as goal
 
 pub loop-i-preserved : goal.loop-i-preserved

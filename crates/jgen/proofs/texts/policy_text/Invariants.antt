@@ -1,5 +1,5 @@
 use Rattle.std.proofs.Common.{◌≡◌, ◌++◌, drop}
-use Rattle.jgen.specs.Files.{grants}
+use Rattle.jgen.specs.GeneratedFiles.{grants}
 use Rattle.jgen.proofs.texts.policy_text.Given as goal
 
 abbrev pub invariant-loop-i : goal.invariant-loop-i

@@ -1,6 +1,6 @@
 use Rattle.std.proofs.Common.{◌++◌}
 use Rattle.std.specs.Prelude.{codes, decimal}
-use Rattle.jgen.proofs.Writing.{more, then_more}
+use Rattle.jgen.proofs.TextConcatenation.{more, then_more}
 use Rattle.jgen.proofs.texts.put_base.Goals as goal
 
 pub returns : goal.returns

@@ -1,7 +1,7 @@
 use Rattle.std.proofs.Common.{◌++◌}
 use Rattle.std.specs.Prelude.{codes}
-use Rattle.jgen.specs.Files.{base}
-use Rattle.jgen.proofs.Writing.{more, then_more}
+use Rattle.jgen.specs.GeneratedFiles.{base}
+use Rattle.jgen.proofs.TextConcatenation.{more, then_more}
 use Rattle.jgen.proofs.texts.put_grant.Goals as goal
 
 pub returns : goal.returns

@@ -1,5 +1,5 @@
 use Rattle.std.specs.Prelude.{codes, decimal}
-use Rattle.jgen.proofs.Writing.{then_more}
+use Rattle.jgen.proofs.TextConcatenation.{then_more}
 use Rattle.jgen.proofs.texts.put_name.Goals as goal
 
 pub returns : goal.returns

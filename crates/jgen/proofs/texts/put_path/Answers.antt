@@ -1,6 +1,6 @@
 use Rattle.std.specs.Prelude.{codes}
-use Rattle.jgen.specs.Classes.{name}
-use Rattle.jgen.proofs.Writing.{then_more}
+use Rattle.jgen.specs.GeneratedClasses.{name}
+use Rattle.jgen.proofs.TextConcatenation.{then_more}
 use Rattle.jgen.proofs.texts.put_path.Goals as goal
 
 pub returns : goal.returns

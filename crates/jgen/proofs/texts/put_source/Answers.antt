@@ -1,7 +1,7 @@
 use Rattle.std.proofs.Common.{◌++◌}
 use Rattle.std.specs.Prelude.{codes}
-use Rattle.jgen.specs.Files.{base, path}
-use Rattle.jgen.proofs.Writing.{more, then_more}
+use Rattle.jgen.specs.GeneratedFiles.{base, path}
+use Rattle.jgen.proofs.TextConcatenation.{more, then_more}
 use Rattle.jgen.proofs.texts.put_source.Goals as goal
 
 pub returns : goal.returns

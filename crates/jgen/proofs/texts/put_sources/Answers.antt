@@ -1,5 +1,5 @@
 use Rattle.std.proofs.Common.{arith}
-use Rattle.jgen.proofs.Writing.{sources_end, sources_next}
+use Rattle.jgen.proofs.TextConcatenation.{sources_end, sources_next}
 use Rattle.jgen.proofs.texts.put_sources.Goals as goal
 
 pub loop-i-preserved : goal.loop-i-preserved

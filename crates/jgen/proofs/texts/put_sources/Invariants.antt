@@ -1,5 +1,5 @@
 use Rattle.std.proofs.Common.{◌≡◌, ◌-◌, ◌++◌}
-use Rattle.jgen.specs.Files.{sources}
+use Rattle.jgen.specs.GeneratedFiles.{sources}
 use Rattle.jgen.proofs.texts.put_sources.Given as goal
 
 abbrev pub invariant-loop-i : goal.invariant-loop-i

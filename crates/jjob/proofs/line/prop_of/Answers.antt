@@ -1,7 +1,7 @@
 use Rattle.std.proofs.Common.{◌≡◌, false, lit<, rules}
 use Rattle.std.specs.Prelude.{codes}
 use Rattle.std.specs.Str.{bytes_eq}
-use Rattle.jjob.proofs.JobReading.{says_other}
+use Rattle.jjob.proofs.JobParser.{says_other}
 use Rattle.jjob.proofs.line.prop_of.Goals as goal
 
 pub returns-then-ne-clause-none : goal.returns-then-ne-clause-none

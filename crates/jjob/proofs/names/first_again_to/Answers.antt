@@ -1,5 +1,5 @@
 use Rattle.std.proofs.Common.{◌≡◌, ◌∙◌, Some, ap, rules, sym, true}
-use Rattle.jground.specs.jbase.First.{or_else}
+use Rattle.jground.specs.jbase.FirstFaults.{or_else}
 use Rattle.jjob.specs.Jobs.{lines_of}
 use Rattle.jjob.specs.JobNames.{lesser}
 use Rattle.jjob.proofs.JobDigests.{again_to, none_again}

@@ -1,5 +1,5 @@
 use Rattle.std.proofs.Common.{lit<}
-use Rattle.jjob.proofs.Parts.{split_here, split_last}
+use Rattle.jjob.proofs.TextSplits.{split_here, split_last}
 use Rattle.jjob.proofs.number.first_part.Goals as goal
 
 pub returns-in-Some-clause-some : goal.returns-in-Some-clause-some

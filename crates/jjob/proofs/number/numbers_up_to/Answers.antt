@@ -1,7 +1,7 @@
 use Rattle.std.proofs.Common.{◌==◌, rules}
 use Rattle.std.specs.List.{slice_split}
 use Rattle.jjob.specs.JobNumbers.{number_up_to}
-use Rattle.jjob.proofs.Parts.{part_more, part_stops, part_last}
+use Rattle.jjob.proofs.TextSplits.{part_more, part_stops, part_last}
 use Rattle.jjob.proofs.number.numbers_up_to.Goals as goal
 
 pub returns-in_default-small_up_to : goal.returns-in_default-small_up_to

@@ -2,7 +2,7 @@ use Rattle.std.proofs.Common.{◌≡◌, ◌==◌, length}
 use Rattle.std.specs.List.{slice_split}
 use denote.Shadow.{shadow}
 use denote.Text.{Utf8}
-use Rattle.jground.specs.jbase.Each.{each_some}
+use Rattle.jground.specs.jbase.ListMaps.{each_some}
 use Rattle.jground.proofs.JbaseProofs.Loops.{some_behind}
 use Rattle.jjob.specs.JobNumbers.{number_up_to}
 use Rattle.jjob.proofs.number.numbers_up_to.Given as goal

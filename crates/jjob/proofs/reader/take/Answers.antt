@@ -1,5 +1,5 @@
 use Rattle.std.proofs.Common.{rules}
-use Rattle.jjob.proofs.JobReading.{digest_skipped, takes_skipped}
+use Rattle.jjob.proofs.JobParser.{digest_skipped, takes_skipped}
 use Rattle.jjob.proofs.reader.take.Goals as goal
 
 pub returns-then-not-is_kept-clause-taken : goal.returns-then-not-is_kept-clause-taken

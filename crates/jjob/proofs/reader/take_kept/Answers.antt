@@ -1,7 +1,7 @@
 use Rattle.std.proofs.Common.{◌∙◌}
 use Rattle.jjob.specs.declared.line.Said.TheVariants.{Prop}
 use Rattle.jjob.specs.Jobs.{said_by}
-use Rattle.jjob.proofs.JobReading.{digest_none, digest_prop, on_ok, prop_fits, says_no_name, takes_said}
+use Rattle.jjob.proofs.JobParser.{digest_none, digest_prop, on_ok, prop_fits, says_no_name, takes_said}
 use Rattle.jjob.proofs.reader.take_kept.Goals as goal
 
 pub returns-in_default-clause-noted : goal.returns-in_default-clause-noted

@@ -1,6 +1,6 @@
 use Rattle.std.proofs.Common.{◌∙◌, sym}
 use Rattle.jjob.specs.Jobs.{said_by}
-use Rattle.jjob.proofs.JobReading.{takes_said, takes_too_much}
+use Rattle.jjob.proofs.JobParser.{takes_said, takes_too_much}
 use Rattle.jjob.proofs.reader.take_other.Goals as goal
 
 pub returns-then-is_too_much : goal.returns-then-is_too_much

@@ -1,6 +1,6 @@
 use Rattle.std.proofs.Common.{◌≡◌, ◌+◌, arith, false, rules, true}
 use Rattle.jjob.specs.Jobs.{lines_of}
-use Rattle.jjob.proofs.JobReading.{along_bad, along_begins, along_more, along_skips, ends_so}
+use Rattle.jjob.proofs.JobParser.{along_bad, along_begins, along_more, along_skips, ends_so}
 use Rattle.jjob.proofs.reading.bad_line.Goals as goal
 
 pub loop-line-init : goal.loop-line-init

@@ -2,7 +2,7 @@ use Rattle.std.proofs.Common.{◌+◌, ◌≤◌, length}
 use denote.Shadow.{shadow}
 use denote.Text.{Utf8}
 use Rattle.jjob.specs.Jobs.{lines_of}
-use Rattle.jjob.proofs.JobReading.{Along}
+use Rattle.jjob.proofs.JobParser.{Along}
 use Rattle.jjob.proofs.reading.bad_line.Given as goal
 
 abbrev pub invariant-loop-line : goal.invariant-loop-line

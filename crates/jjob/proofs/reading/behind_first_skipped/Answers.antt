@@ -1,7 +1,7 @@
 use Rattle.std.proofs.Common.{Some, lit<}
 use Rattle.std.proofs.lemmas.Str.Pattern.{strip_prefix_char}
 use Rattle.jjob.specs.Jobs.{lines_of}
-use Rattle.jjob.proofs.JobReading.{skipped_empty, skipped_mark}
+use Rattle.jjob.proofs.JobParser.{skipped_empty, skipped_mark}
 use Rattle.jjob.proofs.reading.behind_first_skipped.Goals as goal
 
 pub returns-in-Some-clause-skipped : goal.returns-in-Some-clause-skipped

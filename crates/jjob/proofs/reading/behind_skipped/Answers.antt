@@ -1,6 +1,6 @@
 use Rattle.std.proofs.Common.{rules, arith}
 use Rattle.jjob.specs.Jobs.{lines_of}
-use Rattle.jjob.proofs.JobReading.{skips_more, skips_none}
+use Rattle.jjob.proofs.JobParser.{skips_more, skips_none}
 use Rattle.jjob.proofs.reading.behind_skipped.Goals as goal
 
 pub loop-more-init : goal.loop-more-init

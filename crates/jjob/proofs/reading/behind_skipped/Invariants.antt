@@ -2,7 +2,7 @@ use Rattle.std.proofs.Common.{◌+◌, ◌≤◌, length}
 use denote.Shadow.{shadow}
 use denote.Text.{Utf8}
 use Rattle.jjob.specs.Jobs.{lines_of}
-use Rattle.jjob.specs.JobReading.{Skips}
+use Rattle.jjob.specs.JobLineAnswers.{Skips}
 use Rattle.jjob.proofs.reading.behind_skipped.Given as goal
 
 abbrev pub invariant-loop-more : goal.invariant-loop-more

@@ -1,7 +1,7 @@
 use Rattle.std.proofs.Common.{◌≡◌, ◌∷◌, ◌==◌, List, ℕ, arith, ap, length, lit<, Some}
 use Rattle.std.specs.List.{slice_split}
 use Rattle.std.proofs.lemmas.Str.Pattern.{strip_prefix_char}
-use Rattle.jjob.proofs.Parts.{split_here, split_last}
+use Rattle.jjob.proofs.TextSplits.{split_here, split_last}
 use Rattle.jjob.proofs.reading.first_line.Goals as goal
 
 pub returns-in-Some-clause-some : goal.returns-in-Some-clause-some

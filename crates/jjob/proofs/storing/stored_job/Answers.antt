@@ -1,6 +1,6 @@
 use Rattle.std.proofs.Common.{◌++◌, ◌∙◌, rules, ap, List, ℕ, sym}
 use Rattle.jjob.specs.Jobs.{lines_of}
-use Rattle.jjob.specs.Storing.{lines_with, stored_job}
+use Rattle.jjob.specs.StoredJobText.{lines_with, stored_job}
 use Rattle.jjob.proofs.StoredLines.{put_more}
 use Rattle.jjob.proofs.storing.stored_job.Goals as goal
 

@@ -2,7 +2,7 @@ use Rattle.std.proofs.Common.{◌≡◌, ◌++◌, length}
 use denote.Shadow.{shadow}
 use denote.Text.{Utf8}
 use Rattle.jjob.specs.Jobs.{lines_of}
-use Rattle.jjob.specs.Storing.{lines_with}
+use Rattle.jjob.specs.StoredJobText.{lines_with}
 use Rattle.jjob.proofs.storing.stored_job.Given as goal
 
 abbrev pub invariant-loop-line : goal.invariant-loop-line

@@ -2,9 +2,9 @@ use Rattle.std.proofs.Common.{rules, ◌≡◌, true, ap, ap₂, subst, ◌∙�
 use Rattle.std.proofs.lemmas.Result.{IfOk-weaker}
 use Rattle.clap.specs.Words.{App, FailsBy, app_of, fault_of, is_simple, is_simple_and_free, matches_of, rule_of, with_rule}
 use Rattle.clap.specs.Simple.{app_of_fields}
-use Rattle.jjob.specs.App.{app, bare, form, rest}
-use Rattle.jjob.specs.Words.{words_of}
-use Rattle.jjob.proofs.Rows.{free, simple}
+use Rattle.jjob.specs.CommandOptions.{app, bare, form, rest}
+use Rattle.jjob.specs.CommandWords.{words_of}
+use Rattle.jjob.proofs.CommandWords.{free, simple}
 use Rattle.jjob.proofs.words.parsed.Goals as goal
 
 abbrev settled : App → App

@@ -1,7 +1,7 @@
 use Rattle.std.proofs.Common.{map, option_copied, codes, refl, sym, subst, None, Some}
 use Rattle.clap.specs.Words.{first_value, found_of}
-use Rattle.jjob.specs.Words.{WordsGive, words_of}
-use Rattle.jjob.proofs.Join.{command_is}
+use Rattle.jjob.specs.CommandWords.{WordsGive, words_of}
+use Rattle.jjob.proofs.ParserAgreement.{command_is}
 use Rattle.jjob.proofs.words.read_words.Goals as goal
 
 pub returns-in-Some : goal.returns-in-Some

@@ -1,7 +1,7 @@
 use Rattle.std.proofs.Common.{◌∙◌, ap}
 use Rattle.clap.specs.Words.{found_of, rows_of}
-use Rattle.jjob.specs.Rows.{cause_of, said_in}
-use Rattle.jjob.proofs.Join.{refused_says, taken_says}
+use Rattle.jjob.specs.ParseRows.{cause_of, said_in}
+use Rattle.jjob.proofs.ParserAgreement.{refused_says, taken_says}
 use Rattle.jjob.proofs.words.taken.Goals as goal
 
 pub returns-in-Ok : goal.returns-in-Ok

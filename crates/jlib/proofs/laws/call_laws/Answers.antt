@@ -1,4 +1,4 @@
-use Rattle.jlib.proofs.Found.{call_found, call_only}
+use Rattle.jlib.proofs.LibraryLookup.{call_found, call_only}
 use Rattle.jlib.proofs.laws.call_laws.Goals as goal
 
 pub returns-clause-found : goal.returns-clause-found

@@ -1,4 +1,4 @@
-use Rattle.jlib.proofs.Found.{class_above, class_found, class_implements, class_only, lower, next_above, open_above, open_stands, top_is}
+use Rattle.jlib.proofs.LibraryLookup.{class_above, class_found, class_implements, class_only, lower, next_above, open_above, open_stands, top_is}
 use Rattle.jlib.proofs.laws.class_laws.Goals as goal
 
 pub returns-clause-found : goal.returns-clause-found

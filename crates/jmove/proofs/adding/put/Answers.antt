@@ -1,5 +1,5 @@
-use Rattle.jmove.proofs.Growing.{put_is}
-use Rattle.jmove.proofs.Turning.{full_adds, memory_adds}
+use Rattle.jmove.proofs.PoolGrowth.{put_is}
+use Rattle.jmove.proofs.ReferenceAdditions.{full_adds, memory_adds}
 use Rattle.jmove.proofs.adding.put.Goals as goal
 
 pub returns-in-Ok-clause-value : goal.returns-in-Ok-clause-value

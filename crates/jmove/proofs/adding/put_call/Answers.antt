@@ -1,8 +1,8 @@
 use Rattle.std.proofs.Common.{sym, ◌∙◌}
 use Rattle.std.proofs.lemmas.Result.{err_from_is_err_and}
-use Rattle.jmove.specs.Additions.{with_call, with_changed}
-use Rattle.jmove.proofs.Growing.{call_grows, no_memory}
-use Rattle.jmove.proofs.Turning.{call_is, call_none, call_no_text, same_adds}
+use Rattle.jmove.specs.PoolAdditions.{with_call, with_changed}
+use Rattle.jmove.proofs.PoolGrowth.{call_grows, no_memory}
+use Rattle.jmove.proofs.ReferenceAdditions.{call_is, call_none, call_no_text, same_adds}
 use Rattle.jmove.proofs.adding.put_call.Goals as goal
 
 pub returns-in_default : goal.returns-in_default

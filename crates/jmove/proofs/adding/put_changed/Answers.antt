@@ -1,7 +1,7 @@
 use Rattle.std.proofs.lemmas.Result.{err_from_is_err_and}
 use Rattle.jparts.specs.declared.jpool.entry.Entry.TheVariants.{NameAndType, Utf8}
-use Rattle.jmove.specs.Additions.{reference_entry, with_changed, with_entry, with_text, ◌>>◌}
-use Rattle.jmove.proofs.Growing.{entry_grows, first_refused, second_refused, then_adds, then_grows}
+use Rattle.jmove.specs.PoolAdditions.{reference_entry, with_changed, with_entry, with_text, ◌>>◌}
+use Rattle.jmove.proofs.PoolGrowth.{entry_grows, first_refused, second_refused, then_adds, then_grows}
 use Rattle.jmove.proofs.adding.put_changed.Goals as goal
 
 pub returns-in_err-descriptor : goal.returns-in_err-descriptor

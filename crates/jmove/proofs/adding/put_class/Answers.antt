@@ -1,7 +1,7 @@
 use Rattle.std.proofs.lemmas.Result.{err_from_is_err_and}
 use Rattle.jparts.specs.declared.jpool.entry.Entry.TheVariants.{Class, Utf8}
-use Rattle.jmove.specs.Additions.{with_class, with_entry, with_text}
-use Rattle.jmove.proofs.Growing.{entry_grows, first_refused, then_adds}
+use Rattle.jmove.specs.PoolAdditions.{with_class, with_entry, with_text}
+use Rattle.jmove.proofs.PoolGrowth.{entry_grows, first_refused, then_adds}
 use Rattle.jmove.proofs.adding.put_class.Goals as goal
 
 pub returns-in_err-text : goal.returns-in_err-text

@@ -1,6 +1,6 @@
 use Rattle.std.proofs.lemmas.Result.{err_from_is_err_and}
-use Rattle.jmove.specs.Additions.{with_expansions}
-use Rattle.jmove.proofs.Turning.{all_turned, grown_on, next_turn, turn_refused, turn_stops}
+use Rattle.jmove.specs.PoolAdditions.{with_expansions}
+use Rattle.jmove.proofs.ReferenceAdditions.{all_turned, grown_on, next_turn, turn_refused, turn_stops}
 use Rattle.jmove.proofs.adding.put_expansions.Goals as goal
 
 pub returns-in_err-i : goal.returns-in_err-i

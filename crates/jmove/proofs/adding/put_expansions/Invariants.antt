@@ -1,6 +1,6 @@
 use Rattle.std.proofs.Common.{◌≡◌, drop}
-use Rattle.jmove.specs.Additions.{IsFront, with_expansions}
-use Rattle.jmove.proofs.Turning.{with_done}
+use Rattle.jmove.specs.PoolAdditions.{IsFront, with_expansions}
+use Rattle.jmove.proofs.ReferenceAdditions.{with_done}
 use Rattle.jmove.proofs.adding.put_expansions.Given as goal
 
 abbrev pub invariant-loop-kind : goal.invariant-loop-kind

@@ -1,8 +1,8 @@
 use Rattle.std.proofs.lemmas.Result.{err_from_is_err_and}
 use Rattle.std.specs.Prelude.{codes}
 use Rattle.jparts.specs.declared.jpool.entry.Entry.TheVariants.{Method}
-use Rattle.jmove.specs.Additions.{security_name, security_type, with_class, with_entry, with_member, with_security, ◌>>◌}
-use Rattle.jmove.proofs.Growing.{class_grows, entry_grows, first_refused, member_grows, second_refused, then_adds, then_grows}
+use Rattle.jmove.specs.PoolAdditions.{security_name, security_type, with_class, with_entry, with_member, with_security, ◌>>◌}
+use Rattle.jmove.proofs.PoolGrowth.{class_grows, entry_grows, first_refused, member_grows, second_refused, then_adds, then_grows}
 use Rattle.jmove.proofs.adding.put_security.Goals as goal
 
 pub returns-in_err-class : goal.returns-in_err-class

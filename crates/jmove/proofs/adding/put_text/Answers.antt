@@ -1,8 +1,8 @@
 use Rattle.std.proofs.lemmas.Result.{err_from_is_err_and}
 use Rattle.jparts.specs.declared.jpool.entry.Entry.TheVariants.{Utf8}
-use Rattle.jmove.specs.Additions.{with_text}
-use Rattle.jmove.proofs.Growing.{no_memory, entry_grows}
-use Rattle.jmove.proofs.Turning.{text_there}
+use Rattle.jmove.specs.PoolAdditions.{with_text}
+use Rattle.jmove.proofs.PoolGrowth.{no_memory, entry_grows}
+use Rattle.jmove.proofs.ReferenceAdditions.{text_there}
 use Rattle.jmove.proofs.adding.put_text.Goals as goal
 
 pub returns-in_err-e-clause-value : goal.returns-in_err-e-clause-value

@@ -1,6 +1,6 @@
 use Rattle.std.proofs.Common.{arith, ◌∙◌, refl}
-use Rattle.jmove.specs.Additions.{moved_descriptor}
-use Rattle.jmove.proofs.Describing.{room, one_more}
+use Rattle.jmove.specs.PoolAdditions.{moved_descriptor}
+use Rattle.jmove.proofs.MovedDescriptors.{room, one_more}
 use Rattle.jmove.proofs.descriptor.moved_descriptor.Goals as goal
 
 pub types_length-at-requires : goal.types_length-at-requires

@@ -1,5 +1,5 @@
 use Rattle.std.proofs.Common.{arith}
-use Rattle.jmove.proofs.Describing.{types_more}
+use Rattle.jmove.proofs.MovedDescriptors.{types_more}
 use Rattle.jmove.proofs.descriptor.types_length.Goals as goal
 
 pub type_length-count-requires : goal.type_length-count-requires

@@ -1,6 +1,6 @@
 use Rattle.std.proofs.Common.{arith}
-use Rattle.jmove.specs.Tables.{in_table}
-use Rattle.jmove.proofs.Emitting.{still_near, next_reach, next_put}
+use Rattle.jmove.specs.PlaceTables.{in_table}
+use Rattle.jmove.proofs.EmittedLines.{still_near, next_reach, next_put}
 use Rattle.jmove.proofs.emission.put_begin.Goals as goal
 
 pub between-requires : goal.between-requires

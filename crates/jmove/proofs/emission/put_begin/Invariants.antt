@@ -1,6 +1,6 @@
 use Rattle.std.proofs.Common.{◌≡◌, ◌++◌, map, drop}
-use Rattle.jmove.specs.Lines.{Do, placed, reach}
-use Rattle.jmove.specs.Tables.{in_table}
+use Rattle.jmove.specs.AssemblyLines.{Do, placed, reach}
+use Rattle.jmove.specs.PlaceTables.{in_table}
 use Rattle.jmove.proofs.emission.put_begin.Given as goal
 
 abbrev pub invariant-loop-op : goal.invariant-loop-op

@@ -1,7 +1,7 @@
 use Rattle.std.proofs.Common.{arith}
 use Rattle.jmove.specs.declared.method.Expand.TheVariants.{Same}
-use Rattle.jmove.specs.Tables.{in_table}
-use Rattle.jmove.proofs.Assembling.{within, same_end, placed_more}
+use Rattle.jmove.specs.PlaceTables.{in_table}
+use Rattle.jmove.proofs.LineSequences.{within, same_end, placed_more}
 use Rattle.jmove.proofs.emission.put_expansions.Goals as goal
 
 pub put_expansion-requires-clause-near : goal.put_expansion-requires-clause-near

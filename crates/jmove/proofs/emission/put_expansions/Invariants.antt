@@ -1,7 +1,7 @@
 use Rattle.std.proofs.Common.{◌≡◌, ◌++◌, drop}
-use Rattle.jmove.specs.Lines.{end_of, placed}
-use Rattle.jmove.specs.Moved.{expansions}
-use Rattle.jmove.specs.Tables.{in_table}
+use Rattle.jmove.specs.AssemblyLines.{end_of, placed}
+use Rattle.jmove.specs.MethodExpansion.{expansions}
+use Rattle.jmove.specs.PlaceTables.{in_table}
 use Rattle.jmove.proofs.emission.put_expansions.Given as goal
 
 abbrev pub invariant-loop-i : goal.invariant-loop-i

@@ -1,5 +1,5 @@
-use Rattle.jmove.specs.Moved.{push_int, call_static}
-use Rattle.jmove.proofs.Emitting.{two_put}
+use Rattle.jmove.specs.MethodExpansion.{push_int, call_static}
+use Rattle.jmove.proofs.EmittedLines.{two_put}
 use Rattle.jmove.proofs.Sizes.{push_size}
 use Rattle.jmove.proofs.emission.put_in_domain.Goals as goal
 

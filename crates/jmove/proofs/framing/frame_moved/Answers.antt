@@ -3,9 +3,9 @@ use Rattle.std.specs.Prelude.{◌-◌}
 use Rattle.jparts.specs.declared.jmaps.types.FullFrame.{FullFrame}
 use Rattle.jparts.specs.declared.jmaps.types.MapType.{MapType}
 use Rattle.jparts.specs.declared.jmaps.types.MapType.TheVariants.{Object}
-use Rattle.jmove.specs.Frames.{moved_frame, moved_type, widths}
+use Rattle.jmove.specs.MovedFrames.{moved_frame, moved_type, widths}
 use Rattle.jmove.specs.ProofNames.{unsaid}
-use Rattle.jmove.specs.Tables.{in_table}
+use Rattle.jmove.specs.PlaceTables.{in_table}
 use Rattle.jmove.proofs.framing.frame_moved.Goals as goal
 
 -- a frame of the locals that were put one behind the other

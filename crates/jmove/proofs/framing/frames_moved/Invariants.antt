@@ -1,6 +1,6 @@
 use Rattle.std.proofs.Common.{◌≡◌, map, take}
-use Rattle.jmove.specs.Frames.{moved_frame}
-use Rattle.jmove.specs.Tables.{in_table}
+use Rattle.jmove.specs.MovedFrames.{moved_frame}
+use Rattle.jmove.specs.PlaceTables.{in_table}
 use Rattle.jmove.proofs.framing.frames_moved.Given as goal
 
 abbrev pub invariant-loop-frame : goal.invariant-loop-frame

@@ -1,5 +1,5 @@
 use Rattle.std.proofs.Common.{◌≡◌, ◌+◌, drop}
-use Rattle.jmove.specs.Frames.{items_of}
+use Rattle.jmove.specs.MovedFrames.{items_of}
 use Rattle.jmove.proofs.framing.too_many.Given as goal
 
 abbrev pub invariant-loop-frame : goal.invariant-loop-frame

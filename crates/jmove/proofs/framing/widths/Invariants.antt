@@ -1,5 +1,5 @@
 use Rattle.std.proofs.Common.{◌≡◌, ◌+◌, drop}
-use Rattle.jmove.specs.Frames.{widths}
+use Rattle.jmove.specs.MovedFrames.{widths}
 use Rattle.jmove.proofs.framing.widths.Given as goal
 
 abbrev pub invariant-loop-one : goal.invariant-loop-one

@@ -1,5 +1,5 @@
-use Rattle.jmove.proofs.Likening.{renumbered, same_can_move, same_limit}
-use Rattle.jmove.proofs.Limiting.{short}
+use Rattle.jmove.proofs.LimitInvariance.{renumbered, same_can_move, same_limit}
+use Rattle.jmove.proofs.MethodLimits.{short}
 use Rattle.jmove.proofs.laws.limit_laws.Goals as goal
 
 pub returns-clause-same_limit : goal.returns-clause-same_limit

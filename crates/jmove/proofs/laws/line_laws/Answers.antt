@@ -1,6 +1,6 @@
-use Rattle.jmove.proofs.Assembling.{end_above, end_reach, place_skip}
-use Rattle.jmove.proofs.Coding.{code_laid}
-use Rattle.jmove.proofs.Placing.{place_within}
+use Rattle.jmove.proofs.LineSequences.{end_above, end_reach, place_skip}
+use Rattle.jmove.proofs.CodeLayout.{code_laid}
+use Rattle.jmove.proofs.LabelTables.{place_within}
 use Rattle.jmove.proofs.laws.line_laws.Goals as goal
 
 pub returns-clause-end_behind : goal.returns-clause-end_behind

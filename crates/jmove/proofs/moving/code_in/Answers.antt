@@ -1,8 +1,8 @@
 use Rattle.std.proofs.Common.{arith}
-use Rattle.jmove.specs.Moved.{expansions}
-use Rattle.jmove.specs.Tables.{in_table}
-use Rattle.jmove.proofs.Assembling.{end_above}
-use Rattle.jmove.proofs.Joining.{joined}
+use Rattle.jmove.specs.MethodExpansion.{expansions}
+use Rattle.jmove.specs.PlaceTables.{in_table}
+use Rattle.jmove.proofs.LineSequences.{end_above}
+use Rattle.jmove.proofs.MethodAssembly.{joined}
 use Rattle.jmove.proofs.moving.code_in.Goals as goal
 
 pub put_begin-requires : goal.put_begin-requires

@@ -1,5 +1,5 @@
 use Rattle.std.proofs.Common.{arith, sym}
-use Rattle.jmove.proofs.Coding.{last_ends, none_last}
+use Rattle.jmove.proofs.CodeLayout.{last_ends, none_last}
 use Rattle.jmove.proofs.moving.code_length.Goals as goal
 
 pub size_at-requires : goal.size_at-requires

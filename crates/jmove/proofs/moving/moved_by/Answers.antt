@@ -1,6 +1,6 @@
 use Rattle.std.proofs.Common.{arith, ◌∙◌}
-use Rattle.jmove.proofs.Limiting.{no_limit, near_by}
-use Rattle.jmove.proofs.Joining.{whole}
+use Rattle.jmove.proofs.MethodLimits.{no_limit, near_by}
+use Rattle.jmove.proofs.MethodAssembly.{whole}
 use Rattle.jmove.proofs.moving.moved_by.Goals as goal
 
 pub places_in-requires-clause-near : goal.places_in-requires-clause-near

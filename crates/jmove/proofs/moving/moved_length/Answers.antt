@@ -1,4 +1,4 @@
-use Rattle.jmove.proofs.Limiting.{near_at}
+use Rattle.jmove.proofs.MethodLimits.{near_at}
 use Rattle.jmove.proofs.moving.moved_length.Goals as goal
 
 pub end_of-requires-clause-fits : goal.end_of-requires-clause-fits

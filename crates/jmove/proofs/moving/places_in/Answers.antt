@@ -1,4 +1,4 @@
-use Rattle.jmove.proofs.Coding.{code_laid}
+use Rattle.jmove.proofs.CodeLayout.{code_laid}
 use Rattle.jmove.proofs.moving.places_in.Goals as goal
 
 pub places_of-requires-clause-laid : goal.places_of-requires-clause-laid

@@ -1,9 +1,9 @@
 use Rattle.std.proofs.Common.{arith, drop}
 use Rattle.jmove.specs.declared.method.Expand.TheVariants.{Same}
-use Rattle.jmove.specs.Lines.{place_of}
-use Rattle.jmove.specs.Moved.{expansions}
-use Rattle.jmove.proofs.Assembling.{end_above, within}
-use Rattle.jmove.proofs.Placing.{inside, next_placed, near}
+use Rattle.jmove.specs.AssemblyLines.{place_of}
+use Rattle.jmove.specs.MethodExpansion.{expansions}
+use Rattle.jmove.proofs.LineSequences.{end_above, within}
+use Rattle.jmove.proofs.LabelTables.{inside, next_placed, near}
 use Rattle.jmove.proofs.places.places_of.Goals as goal
 
 pub overflow_cast-at : goal.overflow_cast-at

@@ -1,7 +1,7 @@
 use Rattle.std.proofs.Common.{drop}
-use Rattle.jmove.specs.Lines.{place_of}
-use Rattle.jmove.specs.Moved.{expansions}
-use Rattle.jmove.proofs.Placing.{At}
+use Rattle.jmove.specs.AssemblyLines.{place_of}
+use Rattle.jmove.specs.MethodExpansion.{expansions}
+use Rattle.jmove.proofs.LabelTables.{At}
 use Rattle.jmove.proofs.places.places_of.Given as goal
 
 abbrev pub invariant-loop-i : goal.invariant-loop-i

@@ -1,6 +1,6 @@
 use Rattle.std.proofs.Common.{arith}
 use Rattle.jmove.specs.declared.method.Expand.TheVariants.{Same}
-use Rattle.jmove.proofs.Assembling.{within}
+use Rattle.jmove.proofs.LineSequences.{within}
 use Rattle.jmove.proofs.sizing.end_of.Goals as goal
 
 pub reach-at-requires : goal.reach-at-requires

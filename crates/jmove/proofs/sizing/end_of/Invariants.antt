@@ -1,6 +1,6 @@
 use Rattle.std.proofs.Common.{◌≡◌, drop}
-use Rattle.jmove.specs.Lines.{end_of}
-use Rattle.jmove.specs.Moved.{expansions}
+use Rattle.jmove.specs.AssemblyLines.{end_of}
+use Rattle.jmove.specs.MethodExpansion.{expansions}
 use Rattle.jmove.proofs.sizing.end_of.Given as goal
 
 abbrev pub invariant-loop-i : goal.invariant-loop-i

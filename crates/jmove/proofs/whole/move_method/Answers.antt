@@ -1,10 +1,10 @@
 use Rattle.std.proofs.Common.{◌∙◌, List, sym, subst}
 use Rattle.std.proofs.lemmas.Result.{err_from_is_err_and}
 use Rattle.jparts.specs.declared.jpool.entry.Entry.{Entry}
-use Rattle.jmove.specs.Additions.{IsFront}
+use Rattle.jmove.specs.PoolAdditions.{IsFront}
 use Rattle.jmove.specs.declared.naming.Named.{Named}
-use Rattle.jmove.proofs.Growing.{body_grows}
-use Rattle.jmove.proofs.Renumbering.{full_answer, limit_answer, named_can, named_limit, whole_answer}
+use Rattle.jmove.proofs.PoolGrowth.{body_grows}
+use Rattle.jmove.proofs.MoveAnswers.{full_answer, limit_answer, named_can, named_limit, whole_answer}
 use Rattle.jmove.proofs.whole.move_method.Goals as goal
 
 pub returns-in-Some-clause-value : goal.returns-in-Some-clause-value

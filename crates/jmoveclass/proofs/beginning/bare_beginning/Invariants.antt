@@ -1,5 +1,5 @@
 use Rattle.std.proofs.Common.{◌≡◌, ◌++◌, map, take}
-use Rattle.jmoveclass.specs.Beginning.{bare_this, item}
+use Rattle.jmoveclass.specs.EntryLocals.{bare_this, item}
 use Rattle.jmoveclass.proofs.beginning.bare_beginning.Given as goal
 
 abbrev pub invariant-loop-t : goal.invariant-loop-t

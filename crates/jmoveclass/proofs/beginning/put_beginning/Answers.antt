@@ -1,6 +1,6 @@
 use Rattle.std.proofs.lemmas.Result.{err_from_is_err_and}
-use Rattle.jmoveclass.proofs.Beginnings.{begun_is, others_refused, this_first_refused}
-use Rattle.jmoveclass.proofs.Short.{class_short, classes_short}
+use Rattle.jmoveclass.proofs.PrologueAdditions.{begun_is, others_refused, this_first_refused}
+use Rattle.jmoveclass.proofs.TextLengths.{class_short, classes_short}
 use Rattle.jmoveclass.proofs.beginning.put_beginning.Goals as goal
 
 pub put_this-requires : goal.put_this-requires

@@ -1,6 +1,6 @@
 use Rattle.std.proofs.Common.{sym, ◌∙◌}
 use Rattle.std.proofs.lemmas.Result.{err_from_is_err_and}
-use Rattle.jmoveclass.proofs.Beginnings.{item_put, item_refused}
+use Rattle.jmoveclass.proofs.PrologueAdditions.{item_put, item_refused}
 use Rattle.jmoveclass.proofs.beginning.put_item.Goals as goal
 
 pub returns-in_err-class : goal.returns-in_err-class

@@ -1,9 +1,9 @@
 use Rattle.std.proofs.Common.{[], ◌∷◌}
 use Rattle.std.proofs.lemmas.Result.{err_from_is_err_and}
-use Rattle.jmoveclass.specs.Beginning.{with_item}
-use Rattle.jmoveclass.specs.Puts.{with_each}
+use Rattle.jmoveclass.specs.EntryLocals.{with_item}
+use Rattle.jmoveclass.specs.PoolPuts.{with_each}
 use Rattle.jmoveclass.proofs.Growth.{item_grows}
-use Rattle.jmoveclass.proofs.Turning.{all_turned, next_turn, turn_refused}
+use Rattle.jmoveclass.proofs.ItemAdditions.{all_turned, next_turn, turn_refused}
 use Rattle.jmoveclass.proofs.beginning.put_items.Goals as goal
 
 pub returns-in_err-one : goal.returns-in_err-one

@@ -1,7 +1,7 @@
 use Rattle.std.proofs.Common.{◌≡◌, drop}
-use Rattle.jmoveclass.specs.Beginning.{with_item}
-use Rattle.jmoveclass.specs.Puts.{with_each}
-use Rattle.jmoveclass.proofs.Turning.{with_done}
+use Rattle.jmoveclass.specs.EntryLocals.{with_item}
+use Rattle.jmoveclass.specs.PoolPuts.{with_each}
+use Rattle.jmoveclass.proofs.ItemAdditions.{with_done}
 use Rattle.jmoveclass.proofs.beginning.put_items.Given as goal
 
 abbrev pub invariant-loop-t : goal.invariant-loop-t

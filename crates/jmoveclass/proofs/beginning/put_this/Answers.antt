@@ -1,6 +1,6 @@
 use Rattle.std.proofs.Common.{sym, ◌∙◌}
 use Rattle.std.proofs.lemmas.Result.{err_from_is_err_and}
-use Rattle.jmoveclass.proofs.Beginnings.{this_put, this_refused}
+use Rattle.jmoveclass.proofs.PrologueAdditions.{this_put, this_refused}
 use Rattle.jmoveclass.proofs.beginning.put_this.Goals as goal
 
 pub returns-in_err-i : goal.returns-in_err-i

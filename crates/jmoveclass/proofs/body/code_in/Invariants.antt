@@ -1,7 +1,7 @@
 use Rattle.std.proofs.Common.{◌≡◌, drop}
-use Rattle.jground.specs.jbase.First.{first_some}
-use Rattle.jclass.specs.Members.{body_of}
-use Rattle.jprogram.specs.Parts.{code_of}
+use Rattle.jground.specs.jbase.FirstFaults.{first_some}
+use Rattle.jclass.specs.MemberFormat.{body_of}
+use Rattle.jresolution.specs.jprogram.ClassFileParts.{code_of}
 use Rattle.jmoveclass.proofs.body.code_in.Given as goal
 
 abbrev pub invariant-loop-attribute : goal.invariant-loop-attribute

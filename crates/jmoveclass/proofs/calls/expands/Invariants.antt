@@ -1,5 +1,5 @@
 use Rattle.std.proofs.Common.{◌≡◌, take}
-use Rattle.jmoveclass.specs.Calls.{expands}
+use Rattle.jmoveclass.specs.CallExpansion.{expands}
 use Rattle.jmoveclass.proofs.calls.expands.Given as goal
 
 abbrev pub invariant-loop-one : goal.invariant-loop-one

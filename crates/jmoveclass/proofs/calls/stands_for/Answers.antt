@@ -1,5 +1,5 @@
 use Rattle.std.proofs.Common.{◌∙◌}
-use Rattle.jmoveclass.proofs.Stored.{resolved_is}
+use Rattle.jmoveclass.proofs.MethodContents.{resolved_is}
 use Rattle.jmoveclass.proofs.calls.stands_for.Goals as goal
 
 pub returns : goal.returns

@@ -1,5 +1,5 @@
 use Rattle.std.proofs.Common.{refl, sym, None}
-use Rattle.jparts.specs.jmaps.Full.{full_forms}
+use Rattle.jparts.specs.jmaps.ExpandedFrames.{full_forms}
 use Rattle.jmoveclass.proofs.Forms.{forms_more, forms_none, last_more}
 use Rattle.jmoveclass.proofs.frames.full_forms.Goals as goal
 

@@ -1,5 +1,5 @@
 use Rattle.std.proofs.Common.{◌≡◌, None}
-use Rattle.jparts.specs.jmaps.Full.{full_forms}
+use Rattle.jparts.specs.jmaps.ExpandedFrames.{full_forms}
 use Rattle.jmoveclass.proofs.Forms.{last_place}
 use Rattle.jmoveclass.proofs.frames.full_forms.Given as goal
 

@@ -1,6 +1,6 @@
 use Rattle.std.proofs.Common.{◌≡◌, drop}
-use Rattle.jground.specs.jbase.First.{first_some}
-use Rattle.jmoveclass.specs.Methods.{maps_name}
+use Rattle.jground.specs.jbase.FirstFaults.{first_some}
+use Rattle.jmoveclass.specs.MovedMembers.{maps_name}
 use Rattle.jmoveclass.proofs.frames.maps_name.Given as goal
 
 abbrev pub invariant-loop-attribute : goal.invariant-loop-attribute

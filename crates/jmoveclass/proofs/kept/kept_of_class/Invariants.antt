@@ -1,6 +1,6 @@
 use Rattle.std.proofs.Common.{◌≡◌, take}
 use Rattle.std.specs.List.{filter}
-use Rattle.jmoveclass.specs.Kept.{class_keeps}
+use Rattle.jmoveclass.specs.KeptAttributes.{class_keeps}
 use Rattle.jmoveclass.proofs.kept.kept_of_class.Given as goal
 
 abbrev pub invariant-loop-one : goal.invariant-loop-one

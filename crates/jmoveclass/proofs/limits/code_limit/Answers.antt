@@ -1,4 +1,4 @@
-use Rattle.jmoveclass.specs.Moving.{seen_body}
+use Rattle.jmoveclass.specs.MovableClasses.{seen_body}
 use Rattle.jmoveclass.proofs.limits.code_limit.Goals as goal
 
 pub limit_of-requires : goal.limit_of-requires

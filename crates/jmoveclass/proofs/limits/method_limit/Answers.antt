@@ -1,7 +1,7 @@
 use Rattle.std.proofs.Common.{ap, sym, ◌∙◌}
 use Rattle.std.specs.Prelude.{option_map}
-use Rattle.jmoveclass.specs.Moving.{seen_body}
-use Rattle.jmoveclass.proofs.Stored.{found_code, is_method_of}
+use Rattle.jmoveclass.specs.MovableClasses.{seen_body}
+use Rattle.jmoveclass.proofs.MethodContents.{found_code, is_method_of}
 use Rattle.jmoveclass.proofs.limits.method_limit.Goals as goal
 
 pub code_limit-requires-clause-code : goal.code_limit-requires-clause-code

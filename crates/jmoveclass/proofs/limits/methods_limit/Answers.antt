@@ -1,7 +1,7 @@
 use Rattle.std.proofs.Common.{◌≡◌, ◌<◌, length, Some, sym, ap, ◌∙◌, arith}
 use Rattle.std.specs.Prelude.{slice_get}
 use Rattle.std.proofs.lemmas.Option.{slice_get-get_or}
-use Rattle.jprogram.proofs.Counts.{few_methods}
+use Rattle.jresolution.proofs.JprogramProofs.MemberCounts.{few_methods}
 use Rattle.jmoveclass.proofs.limits.methods_limit.Goals as goal
 
 pub overflow_cast-place : goal.overflow_cast-place

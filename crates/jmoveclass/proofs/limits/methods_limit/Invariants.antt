@@ -1,6 +1,6 @@
 use Rattle.std.proofs.Common.{◌≡◌, drop}
-use Rattle.jground.specs.jbase.First.{first_along}
-use Rattle.jmoveclass.specs.Limits.{at_method, method_limit}
+use Rattle.jground.specs.jbase.FirstFaults.{first_along}
+use Rattle.jmoveclass.specs.ClassLimits.{at_method, method_limit}
 use Rattle.jmoveclass.proofs.limits.methods_limit.Given as goal
 
 abbrev pub invariant-loop-j : goal.invariant-loop-j

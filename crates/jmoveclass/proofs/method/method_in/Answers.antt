@@ -1,5 +1,5 @@
-use Rattle.jmoveclass.specs.Moving.{seen_body}
-use Rattle.jmoveclass.proofs.Stored.{frames_fit, has_code, is_method_of}
+use Rattle.jmoveclass.specs.MovableClasses.{seen_body}
+use Rattle.jmoveclass.proofs.MethodContents.{frames_fit, has_code, is_method_of}
 use Rattle.jmoveclass.proofs.method.method_in.Goals as goal
 
 pub in_full-requires : goal.in_full-requires

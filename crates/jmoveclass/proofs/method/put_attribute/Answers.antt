@@ -1,8 +1,8 @@
 use Rattle.std.proofs.Common.{ap, sym, ◌∙◌}
 use Rattle.std.specs.Prelude.{option_map}
 use Rattle.std.proofs.lemmas.Result.{err_from_is_err_and}
-use Rattle.jmoveclass.specs.Moving.{seen_body}
-use Rattle.jmoveclass.proofs.Attributing.{attribute_put, attribute_refused, body_is}
+use Rattle.jmoveclass.specs.MovableClasses.{seen_body}
+use Rattle.jmoveclass.proofs.MovedAttributes.{attribute_put, attribute_refused, body_is}
 use Rattle.jmoveclass.proofs.method.put_attribute.Goals as goal
 
 pub put_code-requires-clause-limits : goal.put_code-requires-clause-limits

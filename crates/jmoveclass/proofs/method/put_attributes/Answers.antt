@@ -1,9 +1,9 @@
 use Rattle.std.specs.Option.{option_to_list}
 use Rattle.std.proofs.lemmas.Result.{err_from_is_err_and}
-use Rattle.jmoveclass.specs.Methods.{with_attribute}
-use Rattle.jmoveclass.specs.Puts.{with_each}
+use Rattle.jmoveclass.specs.MovedMembers.{with_attribute}
+use Rattle.jmoveclass.specs.PoolPuts.{with_each}
 use Rattle.jmoveclass.proofs.Growth.{attribute_grows}
-use Rattle.jmoveclass.proofs.Turning.{all_turned, next_turn, turn_refused}
+use Rattle.jmoveclass.proofs.ItemAdditions.{all_turned, next_turn, turn_refused}
 use Rattle.jmoveclass.proofs.method.put_attributes.Goals as goal
 
 pub returns-in_err-one : goal.returns-in_err-one

@@ -1,7 +1,7 @@
 use Rattle.std.proofs.Common.{◌≡◌, drop}
-use Rattle.jmoveclass.specs.Methods.{with_attribute}
-use Rattle.jmoveclass.specs.Puts.{with_each}
-use Rattle.jmoveclass.proofs.Turning.{with_done}
+use Rattle.jmoveclass.specs.MovedMembers.{with_attribute}
+use Rattle.jmoveclass.specs.PoolPuts.{with_each}
+use Rattle.jmoveclass.proofs.ItemAdditions.{with_done}
 use Rattle.jmoveclass.proofs.method.put_attributes.Given as goal
 
 abbrev pub invariant-loop-one : goal.invariant-loop-one

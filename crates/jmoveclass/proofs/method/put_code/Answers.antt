@@ -1,6 +1,6 @@
 use Rattle.std.proofs.lemmas.Result.{err_from_is_err_and}
-use Rattle.jmoveclass.specs.Moving.{seen_body}
-use Rattle.jmoveclass.proofs.Coding.{code_can, code_limit, code_puts, first_only_refused}
+use Rattle.jmoveclass.specs.MovableClasses.{seen_body}
+use Rattle.jmoveclass.proofs.CodeMoves.{code_can, code_limit, code_puts, first_only_refused}
 use Rattle.jmoveclass.proofs.method.put_code.Goals as goal
 
 pub returns-in_err-first : goal.returns-in_err-first

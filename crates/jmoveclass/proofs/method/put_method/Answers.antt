@@ -1,5 +1,5 @@
 use Rattle.std.proofs.lemmas.Result.{err_from_is_err_and}
-use Rattle.jmoveclass.proofs.Members.{attributes_refused, desc_refused, method_put}
+use Rattle.jmoveclass.proofs.MethodMoves.{attributes_refused, desc_refused, method_put}
 use Rattle.jmoveclass.proofs.method.put_method.Goals as goal
 
 pub returns-in_err-desc : goal.returns-in_err-desc

@@ -1,6 +1,6 @@
 use Rattle.std.proofs.lemmas.Result.{err_from_is_err_and}
-use Rattle.jmoveclass.specs.Moving.{seen_body}
-use Rattle.jmoveclass.proofs.Answering.{frames_near, locals_near, moved_is, moved_puts, moved_refused, stack_near}
+use Rattle.jmoveclass.specs.MovableClasses.{seen_body}
+use Rattle.jmoveclass.proofs.MoveAnswers.{frames_near, locals_near, moved_is, moved_puts, moved_refused, stack_near}
 use Rattle.jmoveclass.proofs.method.put_moved.Goals as goal
 
 pub returns-in_err-out : goal.returns-in_err-out

@@ -1,4 +1,4 @@
-use Rattle.jmoveclass.proofs.Stored.{begun}
+use Rattle.jmoveclass.proofs.MethodContents.{begun}
 use Rattle.jmoveclass.proofs.whole.adder_of.Goals as goal
 
 pub over-requires : goal.over-requires

@@ -1,4 +1,4 @@
-use Rattle.jmoveclass.proofs.Full.{is_moved, pool_full}
+use Rattle.jmoveclass.proofs.PoolOverflow.{is_moved, pool_full}
 use Rattle.jmoveclass.proofs.whole.moved.Goals as goal
 
 pub returns-in-Ok : goal.returns-in-Ok

@@ -1,5 +1,5 @@
 use Rattle.std.proofs.Common.{sym, ◌∙◌}
-use Rattle.jmoveclass.proofs.Full.{first_limit}
+use Rattle.jmoveclass.proofs.PoolOverflow.{first_limit}
 use Rattle.jmoveclass.proofs.whole.moved_class.Goals as goal
 
 pub returns-in-Some : goal.returns-in-Some

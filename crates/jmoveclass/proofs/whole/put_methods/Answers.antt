@@ -2,13 +2,13 @@ use Rattle.std.proofs.Common.{[], ◌∷◌, ◌≡◌, Some, ap, sym, ◌∙◌
 use Rattle.std.specs.Prelude.{slice_get}
 use Rattle.std.proofs.lemmas.Option.{slice_get-get_or}
 use Rattle.std.proofs.lemmas.Result.{err_from_is_err_and}
-use Rattle.jmoveclass.specs.Methods.{with_method}
-use Rattle.jmoveclass.specs.Puts.{with_each}
-use Rattle.jmoveclass.proofs.Attributing.{no_limit}
+use Rattle.jmoveclass.specs.MovedMembers.{with_method}
+use Rattle.jmoveclass.specs.PoolPuts.{with_each}
+use Rattle.jmoveclass.proofs.MovedAttributes.{no_limit}
 use Rattle.jmoveclass.proofs.Growth.{method_grows}
-use Rattle.jmoveclass.proofs.Short.{moved_short}
-use Rattle.jprogram.specs.Parts.{member_desc}
-use Rattle.jmoveclass.proofs.Turning.{all_turned, next_turn, turn_refused}
+use Rattle.jmoveclass.proofs.TextLengths.{moved_short}
+use Rattle.jresolution.specs.jprogram.ClassFileParts.{member_desc}
+use Rattle.jmoveclass.proofs.ItemAdditions.{all_turned, next_turn, turn_refused}
 use Rattle.jmoveclass.proofs.whole.put_methods.Goals as goal
 
 pub put_method-requires-clause-short : goal.put_method-requires-clause-short

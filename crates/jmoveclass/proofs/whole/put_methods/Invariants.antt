@@ -1,7 +1,7 @@
 use Rattle.std.proofs.Common.{◌≡◌, drop}
-use Rattle.jmoveclass.specs.Methods.{with_method}
-use Rattle.jmoveclass.specs.Puts.{with_each}
-use Rattle.jmoveclass.proofs.Turning.{with_done}
+use Rattle.jmoveclass.specs.MovedMembers.{with_method}
+use Rattle.jmoveclass.specs.PoolPuts.{with_each}
+use Rattle.jmoveclass.proofs.ItemAdditions.{with_done}
 use Rattle.jmoveclass.proofs.whole.put_methods.Given as goal
 
 abbrev pub invariant-loop-m : goal.invariant-loop-m

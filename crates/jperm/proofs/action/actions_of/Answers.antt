@@ -1,10 +1,10 @@
 use Rattle.std.proofs.Common.{ℕ, sym, ap, ◌∙◌}
 use Rattle.std.specs.Option.{option_copied, option_map}
 use Rattle.std.specs.Str.{byte}
-use Rattle.jground.specs.jbase.Each.{each_some}
+use Rattle.jground.specs.jbase.ListMaps.{each_some}
 use Rattle.jperm.specs.declared.set.Actions.{Actions}
 use Rattle.jperm.specs.Actions.{named, trimmed, actions_of}
-use Rattle.jperm.specs.Pieces.{pieces_if}
+use Rattle.jperm.specs.TextPieces.{pieces_if}
 use Rattle.jperm.proofs.Walks.{action_more, action_none, actions_end, joined_with}
 use Rattle.jperm.proofs.action.actions_of.Goals as goal
 

@@ -1,9 +1,9 @@
 use Rattle.std.proofs.Common.{◌≡◌}
 use Rattle.std.specs.Option.{option_copied}
 use Rattle.std.specs.Str.{byte}
-use Rattle.jground.specs.jbase.Each.{each_some}
+use Rattle.jground.specs.jbase.ListMaps.{each_some}
 use Rattle.jperm.specs.Actions.{named, trimmed, actions_of}
-use Rattle.jperm.specs.Pieces.{pieces_if}
+use Rattle.jperm.specs.TextPieces.{pieces_if}
 use Rattle.jperm.proofs.Walks.{joined_with, left_of}
 use Rattle.jperm.proofs.action.actions_of.Given as goal
 

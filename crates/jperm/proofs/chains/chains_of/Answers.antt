@@ -1,4 +1,4 @@
-use Rattle.jperm.proofs.Chaining.{next_stands}
+use Rattle.jperm.proofs.KeyChains.{next_stands}
 use Rattle.jperm.proofs.chains.chains_of.Goals as goal
 
 pub loop-member-preserved : goal.loop-member-preserved

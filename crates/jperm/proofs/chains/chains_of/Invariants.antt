@@ -1,4 +1,4 @@
-use Rattle.jperm.proofs.Chaining.{Standing}
+use Rattle.jperm.proofs.KeyChains.{Standing}
 use Rattle.jperm.proofs.chains.chains_of.Given as goal
 
 abbrev pub invariant-loop-member : goal.invariant-loop-member

@@ -1,5 +1,5 @@
 use Rattle.std.proofs.Common.{◌≡◌, ◌-◌, fold, length}
-use Rattle.jperm.specs.Chains.{chain, looked, noted_at}
+use Rattle.jperm.specs.PermissionChains.{chain, looked, noted_at}
 use Rattle.jperm.proofs.chains.look.Given as goal
 
 abbrev pub invariant-loop-step : goal.invariant-loop-step

@@ -1,6 +1,6 @@
 use Rattle.std.proofs.Common.{◌≡◌, drop, fold}
-use Rattle.jperm.specs.Chains.{looked}
-use Rattle.jperm.specs.Keys.{keys_from, named_keys}
+use Rattle.jperm.specs.PermissionChains.{looked}
+use Rattle.jperm.specs.PermissionKeys.{keys_from, named_keys}
 use Rattle.jperm.proofs.chains.look_named.Given as goal
 
 abbrev pub invariant-loop-unit : goal.invariant-loop-unit

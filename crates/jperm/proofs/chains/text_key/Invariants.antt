@@ -1,5 +1,5 @@
 use Rattle.std.proofs.Common.{◌≡◌, drop, fold}
-use Rattle.jperm.specs.Keys.{stepped, text_key}
+use Rattle.jperm.specs.PermissionKeys.{stepped, text_key}
 use Rattle.jperm.proofs.chains.text_key.Given as goal
 
 abbrev pub invariant-loop-unit : goal.invariant-loop-unit

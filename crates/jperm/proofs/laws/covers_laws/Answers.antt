@@ -1,4 +1,4 @@
-use Rattle.jperm.proofs.Chain as chain
+use Rattle.jperm.proofs.ImplicationTransitivity as chain
 use Rattle.jperm.proofs.Cover as cover
 use Rattle.jperm.proofs.laws.covers_laws.Goals as goal
 

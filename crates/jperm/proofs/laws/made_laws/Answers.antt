@@ -1,4 +1,4 @@
-use Rattle.jperm.proofs.Named.{made_asks}
+use Rattle.jperm.proofs.ActionNames.{made_asks}
 use Rattle.jperm.proofs.laws.made_laws.Goals as goal
 
 pub returns : goal.returns

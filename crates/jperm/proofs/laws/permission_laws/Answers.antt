@@ -1,6 +1,6 @@
-use Rattle.jperm.proofs.Chain.{implies-trans}
+use Rattle.jperm.proofs.ImplicationTransitivity.{implies-trans}
 use Rattle.jperm.proofs.Cover.{implies_itself}
-use Rattle.jperm.proofs.Same.{equal_same}
+use Rattle.jperm.proofs.PermissionEquality.{equal_same}
 use Rattle.jperm.proofs.laws.permission_laws.Goals as goal
 
 pub returns-clause-same : goal.returns-clause-same

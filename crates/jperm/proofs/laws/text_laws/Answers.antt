@@ -1,4 +1,4 @@
-use Rattle.jperm.proofs.Parts.{eleven, parts_join}
+use Rattle.jperm.proofs.TextParts.{eleven, parts_join}
 use Rattle.jperm.proofs.laws.text_laws.Goals as goal
 
 pub returns-clause-count : goal.returns-clause-count

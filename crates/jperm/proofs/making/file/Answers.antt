@@ -1,6 +1,6 @@
 use Rattle.std.specs.Option.{option_copied}
 use Rattle.jperm.specs.Actions.{file_actions}
-use Rattle.jperm.proofs.Named.{wanted_some}
+use Rattle.jperm.proofs.ActionNames.{wanted_some}
 use Rattle.jperm.proofs.making.file.Goals as goal
 
 pub new-requires : goal.new-requires

@@ -1,8 +1,8 @@
 use Rattle.std.proofs.Common.{◌≡◌, fold}
 use Rattle.std.specs.Option.{option_copied}
-use Rattle.jperm.specs.Paths.{slash}
-use Rattle.jperm.specs.Pieces.{pieces, pieces_if}
-use Rattle.jperm.specs.Written.{next}
+use Rattle.jperm.specs.PathCoverage.{slash}
+use Rattle.jperm.specs.TextPieces.{pieces, pieces_if}
+use Rattle.jperm.specs.WrittenPaths.{next}
 use Rattle.jperm.proofs.Walks.{left_of}
 use Rattle.jperm.proofs.written.follow.Given as goal
 

@@ -1,7 +1,7 @@
 use Rattle.std.proofs.Common.{◌≡◌, ◌++◌, ◌∷◌, drop}
 use Rattle.std.specs.List.{flat_map}
-use Rattle.jperm.specs.Paths.{slash}
-use Rattle.jperm.specs.Written.{path_of_names}
+use Rattle.jperm.specs.PathCoverage.{slash}
+use Rattle.jperm.specs.WrittenPaths.{path_of_names}
 use Rattle.jperm.proofs.written.path_of_names.Given as goal
 
 abbrev pub invariant-loop-name : goal.invariant-loop-name

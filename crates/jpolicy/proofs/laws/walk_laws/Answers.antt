@@ -1,5 +1,5 @@
 use Rattle.jpolicy.proofs.Constructs.{clauses_walk, entries_walk, items_walk}
-use Rattle.jpolicy.proofs.Shrinking.{expansion_ends, string_ends, text_ends}
+use Rattle.jpolicy.proofs.LexerProgress.{expansion_ends, string_ends, text_ends}
 use Rattle.jpolicy.proofs.laws.walk_laws.Goals as goal
 
 pub returns-clause-text : goal.returns-clause-text

@@ -1,6 +1,6 @@
 use Rattle.std.proofs.Common.{◌≡◌, ◌+◌, ◌≤◌, ◌<◌, length, take, ap, ◌∙◌, arith}
 use Rattle.std.specs.Str.{encode_utf8_all}
-use Rattle.jpolicy.proofs.Places.{bytes_more, bytes_in_front}
+use Rattle.jpolicy.proofs.CharacterOffsets.{bytes_more, bytes_in_front}
 use Rattle.jpolicy.proofs.read.place_of.Goals as goal
 
 pub overflow_add-bytes : goal.overflow_add-bytes

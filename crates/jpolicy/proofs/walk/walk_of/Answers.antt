@@ -1,7 +1,7 @@
 use Rattle.std.proofs.Common.{length}
 use Rattle.std.proofs.lemmas.Result.{err_from_is_err_and}
-use Rattle.jpolicy.specs.Walks.{walk}
-use Rattle.jpolicy.proofs.Walking.{walk_more, walk_fails, walk_over, walk_out}
+use Rattle.jpolicy.specs.ListWalks.{walk}
+use Rattle.jpolicy.proofs.ListWalks.{walk_more, walk_fails, walk_over, walk_out}
 use Rattle.jpolicy.proofs.walk.walk_of.Goals as goal
 
 pub returns-then-is_over : goal.returns-then-is_over

@@ -1,5 +1,5 @@
 use Rattle.std.proofs.Common.{◌≡◌, ◌-◌, length}
-use Rattle.jpolicy.specs.Walks.{walk}
+use Rattle.jpolicy.specs.ListWalks.{walk}
 use Rattle.jpolicy.proofs.walk.walk_of.Given as goal
 
 abbrev pub invariant-loop : goal.invariant-loop

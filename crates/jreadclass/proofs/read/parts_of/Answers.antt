@@ -1,6 +1,6 @@
 use Rattle.std.proofs.Common.{◌≡◌, None, sym, arith, ◌∙◌}
-use Rattle.jparts.specs.jpool.Pools.{first_fault}
-use Rattle.jclass.specs.Judging.{entry_fault}
+use Rattle.jparts.specs.jpool.ConstantPools.{first_fault}
+use Rattle.jclass.specs.PoolChecks.{entry_fault}
 use Rattle.jclass.proofs.ClassLaws.{head_pool}
 use Rattle.jreadclass.proofs.read.parts_of.Goals as goal
 

@@ -1,5 +1,5 @@
 use Rattle.std.proofs.Common.{sym, ◌∙◌, arith}
-use Rattle.jground.proofs.JformatProofs.Placing.{fails_at}
+use Rattle.jground.proofs.JformatProofs.FaultOffsets.{fails_at}
 use Rattle.jclass.specs.Class.{class_file}
 use Rattle.jclass.proofs.ClassLaws.{class_law, found_is, read_is}
 use Rattle.jreadclass.proofs.read.read_class.Goals as goal

@@ -1,6 +1,6 @@
 use Rattle.std.proofs.Common.{◌∙◌}
 use Rattle.std.proofs.lemmas.Result.{err_from_is_err_and}
-use Rattle.jclass.proofs.Passing.{shape_is, head_stops, tail_stops}
+use Rattle.jclass.proofs.FirstPass.{shape_is, head_stops, tail_stops}
 use Rattle.jreadclass.proofs.read.shape_of.Goals as goal
 
 pub returns-in_err-head-clause-shape : goal.returns-in_err-head-clause-shape

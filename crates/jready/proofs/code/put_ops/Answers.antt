@@ -1,8 +1,8 @@
 use Rattle.std.proofs.Common.{◌≡◌, ◌+◌, [], ◌∷◌, length, refl, ap, ◌∙◌, arith}
 use Rattle.std.proofs.lemmas.List.{length-append}
-use Rattle.jmeaning.proofs.JusesProofs.Spans.{grows_on}
-use Rattle.jready.proofs.Growing.{grown_on}
-use Rattle.jready.proofs.Laying.{laid_step}
+use Rattle.jresolution.proofs.JusesProofs.Spans.{grows_on}
+use Rattle.jready.proofs.TableGrowth.{grown_on}
+use Rattle.jready.proofs.InstructionLayout.{laid_step}
 use Rattle.jready.proofs.code.put_ops.Goals as goal
 
 pub loop-i-preserved : goal.loop-i-preserved

@@ -1,7 +1,7 @@
 use Rattle.std.proofs.Common.{◌≡◌, ◌+◌, length}
-use Rattle.jmeaning.specs.juses.Tables.{Grows}
-use Rattle.jready.specs.Laid.{AreLaid}
-use Rattle.jready.specs.Tabled.{Grown}
+use Rattle.jresolution.specs.juses.PoolTables.{Grows}
+use Rattle.jready.specs.CodeLayout.{AreLaid}
+use Rattle.jready.specs.TableGrowth.{Grown}
 use Rattle.jready.proofs.code.put_ops.Given as goal
 
 abbrev pub invariant-loop-i : goal.invariant-loop-i

@@ -1,7 +1,7 @@
 use Rattle.std.proofs.Common.{◌≡◌, rules, true, false}
 use Rattle.std.specs.Prelude.{codes}
 use Rattle.std.specs.Str.{bytes_eq}
-use Rattle.jready.proofs.Narrowed.{boolean_left, byte_left, char_left, short_left, whole}
+use Rattle.jready.proofs.NarrowedValues.{boolean_left, byte_left, char_left, short_left, whole}
 use Rattle.jready.proofs.fields.narrow_of.Goals as goal
 
 pub returns-then-eq : goal.returns-then-eq

@@ -1,5 +1,5 @@
 use Rattle.std.proofs.Common.{rules}
-use Rattle.jready.proofs.Switching.{table_means}
+use Rattle.jready.proofs.TableSwitches.{table_means}
 use Rattle.jready.proofs.flows.table.Goals as goal
 
 pub returns-clause-means : goal.returns-clause-means

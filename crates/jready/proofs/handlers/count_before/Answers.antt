@@ -1,7 +1,7 @@
 use Rattle.std.proofs.Common.{ℕ, rules, pos, ap, ◌∙◌}
 use Rattle.std.specs.Prelude.{nat_le}
 use Rattle.std.proofs.lemmas.List.Sorted.{answers_always}
-use Rattle.jready.proofs.Numbering.{counts, number_of}
+use Rattle.jready.proofs.InstructionNumbers.{counts, number_of}
 use Rattle.jready.proofs.handlers.count_before.Goals as goal
 
 pub returns-in-Ok : goal.returns-in-Ok

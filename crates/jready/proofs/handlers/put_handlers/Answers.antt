@@ -1,5 +1,5 @@
 use Rattle.std.proofs.Common.{ap, length, ◌∙◌}
-use Rattle.jready.proofs.Numbering.{puts_done, puts_more}
+use Rattle.jready.proofs.InstructionNumbers.{puts_done, puts_more}
 use Rattle.jready.proofs.handlers.put_handlers.Goals as goal
 
 pub loop-handler-preserved : goal.loop-handler-preserved

@@ -1,4 +1,4 @@
-use Rattle.jready.proofs.Numbering.{Puts}
+use Rattle.jready.proofs.InstructionNumbers.{Puts}
 use Rattle.jready.proofs.handlers.put_handlers.Given as goal
 
 abbrev pub invariant-loop-handler : goal.invariant-loop-handler

@@ -1,5 +1,5 @@
 use Rattle.std.proofs.Common.{refl}
-use Rattle.jready.proofs.Numbering.{handler_is}
+use Rattle.jready.proofs.InstructionNumbers.{handler_is}
 use Rattle.jready.proofs.handlers.row_of.Goals as goal
 
 pub returns : goal.returns

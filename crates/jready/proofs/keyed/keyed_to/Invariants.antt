@@ -1,6 +1,6 @@
 use Rattle.std.proofs.Common.{◌≡◌, drop, map}
-use Rattle.jmeaning.specs.juses.Numbered.{keyed_as}
-use Rattle.jmodel.specs.jmachine.Straight.{case_of}
+use Rattle.jresolution.specs.juses.InternedInstructions.{keyed_as}
+use Rattle.jsemantics.specs.jmachine.BasicInstructions.{case_of}
 use Rattle.jready.proofs.keyed.keyed_to.Given as goal
 
 abbrev pub invariant-loop-one : goal.invariant-loop-one

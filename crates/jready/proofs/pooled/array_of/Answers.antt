@@ -1,7 +1,7 @@
-use Rattle.jmeaning.specs.juses.Tables.{pool_at}
-use Rattle.jready.specs.Meant.{meant}
-use Rattle.jready.proofs.Back.{array_nothing}
-use Rattle.jready.proofs.Exactly.{array_made_so}
+use Rattle.jresolution.specs.juses.PoolTables.{pool_at}
+use Rattle.jready.specs.DecodedInstructions.{meant}
+use Rattle.jready.proofs.EntryMeanings.{array_nothing}
+use Rattle.jready.proofs.InstructionContents.{array_made_so}
 use Rattle.jready.proofs.pooled.array_of.Goals as goal
 
 pub returns-in_default-clause-means : goal.returns-in_default-clause-means

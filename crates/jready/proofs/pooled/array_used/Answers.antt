@@ -1,6 +1,6 @@
 use Rattle.std.proofs.Common.{ap, ◌∙◌}
-use Rattle.jmeaning.specs.juses.Tables.{pool_at}
-use Rattle.jready.specs.Only.{only_array}
+use Rattle.jresolution.specs.juses.PoolTables.{pool_at}
+use Rattle.jready.specs.MeaningParts.{only_array}
 use Rattle.jready.proofs.pooled.array_used.Goals as goal
 
 pub returns : goal.returns

@@ -1,18 +1,18 @@
 use Rattle.std.proofs.Common.{◌≡◌, Some, sym, ap, subst, ◌∙◌}
 use Rattle.std.specs.Prelude.{option_map}
-use Rattle.jprogram.specs.declared.member.Member.{Member}
-use Rattle.jmeaning.specs.juses.Instructions.{Used}
-use Rattle.jmeaning.specs.declared.juses.meaning.How.{How}
-use Rattle.jmeaning.specs.juses.Meanings as meanings
-use Rattle.jmeaning.specs.juses.Meanings.{Call, CallMeaning, call_named}
-use Rattle.jmeaning.specs.juses.Tables.{pool_at}
-use Rattle.jready.specs.Exact.{Exact}
-use Rattle.jready.specs.Meant.{call_form, meant}
-use Rattle.jready.specs.Only.{only_call}
-use Rattle.jready.specs.Referred.{IsMethod}
-use Rattle.jready.proofs.Back.{call_back}
-use Rattle.jready.proofs.Calling.{form_means, is_called, nothing_called}
-use Rattle.jready.proofs.Exactly.{exact_library, exact_never, exact_user}
+use Rattle.jresolution.specs.declared.jprogram.member.Member.{Member}
+use Rattle.jresolution.specs.juses.IndexedInstructions.{Used}
+use Rattle.jresolution.specs.declared.juses.meaning.InvokeKind.{InvokeKind}
+use Rattle.jresolution.specs.juses.InstructionMeanings as meanings
+use Rattle.jresolution.specs.juses.InstructionMeanings.{Call, CallMeaning, call_named}
+use Rattle.jresolution.specs.juses.PoolTables.{pool_at}
+use Rattle.jready.specs.InlineOperands.{Exact}
+use Rattle.jready.specs.DecodedInstructions.{call_form, meant}
+use Rattle.jready.specs.MeaningParts.{only_call}
+use Rattle.jready.specs.ResolvedMembers.{IsMethod}
+use Rattle.jready.proofs.EntryMeanings.{call_back}
+use Rattle.jready.proofs.CallEntries.{form_means, is_called, nothing_called}
+use Rattle.jready.proofs.InstructionContents.{exact_library, exact_never, exact_user}
 use Rattle.jready.proofs.pooled.call_of.Goals as goal
 
 pub returns-in_default-clause-means : goal.returns-in_default-clause-means
@@ -58,7 +58,7 @@ returns-in-Method-clause-exact c t =
     let same = form_means p pool c.args.form c.args.pool how _ c.requires.calls c.in-Some.ensures in
     let is = c.in-Some.ensures ∙ ap only_call (sym same) in
     let e = call_back o how named is in
-    let called = λ (w : How) (d : CallMeaning) (e : o ≡ Some (Call w d)). is_called p pool c.args.form c.args.pool w d c.requires.calls (sym same ∙ e) in
+    let called = λ (w : InvokeKind) (d : CallMeaning) (e : o ≡ Some (Call w d)). is_called p pool c.args.form c.args.pool w d c.requires.calls (sym same ∙ e) in
     let number = c.number_at-number in
     let calls = (exact_user p types o how c.in-Some.call c.in-Method.id number.result is called c.in-Method.is number.ensures how named e).1 in
     subst (Exact p types t c.args.class) (sym c.call_to.ensures) (record { call = named; means = e; calls = calls })
@@ -81,7 +81,7 @@ returns-in-Field-clause-exact c t =
     let same = form_means p pool c.args.form c.args.pool how _ c.requires.calls c.in-Some.ensures in
     let is = c.in-Some.ensures ∙ ap only_call (sym same) in
     let e = call_back o how named is in
-    let called = λ (w : How) (d : CallMeaning) (e : o ≡ Some (Call w d)). is_called p pool c.args.form c.args.pool w d c.requires.calls (sym same ∙ e) in
+    let called = λ (w : InvokeKind) (d : CallMeaning) (e : o ≡ Some (Call w d)). is_called p pool c.args.form c.args.pool w d c.requires.calls (sym same ∙ e) in
     absurd (exact_never p types o how c.in-Some.call is called (λ desc h. subst (λ (m : Member). IsMethod p m desc) c.in-Field.is h) how named e)
 
 pub returns-in-LibField-clause-means : goal.returns-in-LibField-clause-means
@@ -102,5 +102,5 @@ returns-in-LibField-clause-exact c t =
     let same = form_means p pool c.args.form c.args.pool how _ c.requires.calls c.in-Some.ensures in
     let is = c.in-Some.ensures ∙ ap only_call (sym same) in
     let e = call_back o how named is in
-    let called = λ (w : How) (d : CallMeaning) (e : o ≡ Some (Call w d)). is_called p pool c.args.form c.args.pool w d c.requires.calls (sym same ∙ e) in
+    let called = λ (w : InvokeKind) (d : CallMeaning) (e : o ≡ Some (Call w d)). is_called p pool c.args.form c.args.pool w d c.requires.calls (sym same ∙ e) in
     absurd (exact_never p types o how c.in-Some.call is called (λ desc h. subst (λ (m : Member). IsMethod p m desc) c.in-LibField.is h) how named e)

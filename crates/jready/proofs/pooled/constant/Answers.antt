@@ -1,8 +1,8 @@
 use Rattle.std.proofs.Common.{ap, ◌∙◌}
 use Rattle.std.specs.Prelude.{option_map}
-use Rattle.jmeaning.specs.juses.Instructions.{Used}
-use Rattle.jmeaning.specs.juses.Tables.{pool_at}
-use Rattle.jready.specs.Meant.{meant}
+use Rattle.jresolution.specs.juses.IndexedInstructions.{Used}
+use Rattle.jresolution.specs.juses.PoolTables.{pool_at}
+use Rattle.jready.specs.DecodedInstructions.{meant}
 use Rattle.jready.proofs.pooled.constant.Goals as goal
 
 pub returns-clause-means : goal.returns-clause-means

@@ -1,9 +1,9 @@
 use Rattle.std.proofs.Common.{sym}
-use Rattle.jmeaning.specs.juses.Meanings.{field_named}
-use Rattle.jmeaning.specs.juses.Tables.{pool_at}
-use Rattle.jready.specs.Meant.{meant}
-use Rattle.jready.proofs.Back.{field_back, field_nothing}
-use Rattle.jready.proofs.Exactly.{exact_field, exact_out, no_slot}
+use Rattle.jresolution.specs.juses.InstructionMeanings.{field_named}
+use Rattle.jresolution.specs.juses.PoolTables.{pool_at}
+use Rattle.jready.specs.DecodedInstructions.{meant}
+use Rattle.jready.proofs.EntryMeanings.{field_back, field_nothing}
+use Rattle.jready.proofs.InstructionContents.{exact_field, exact_out, no_slot}
 use Rattle.jready.proofs.pooled.field_of.Goals as goal
 
 pub returns-in_default-clause-means : goal.returns-in_default-clause-means

@@ -1,9 +1,9 @@
 use Rattle.std.proofs.Common.{◌≡◌, sym, subst}
-use Rattle.jparts.specs.declared.jcode.form.PoolForm.{PoolForm}
-use Rattle.jmeaning.specs.juses.Meanings.{meant}
-use Rattle.jmeaning.specs.juses.Tables.{pool_at}
-use Rattle.jready.specs.Only.{only_push}
-use Rattle.jready.proofs.Pushing.{constant_pushes, long_pushes}
+use Rattle.jparts.specs.declared.jcode.op_form.PoolForm.{PoolForm}
+use Rattle.jresolution.specs.juses.InstructionMeanings.{meant}
+use Rattle.jresolution.specs.juses.PoolTables.{pool_at}
+use Rattle.jready.specs.MeaningParts.{only_push}
+use Rattle.jready.proofs.ConstantPushes.{constant_pushes, long_pushes}
 use Rattle.jready.proofs.pooled.pool_instr.Goals as goal
 
 pub constant-requires-clause-pushes : goal.constant-requires-clause-pushes

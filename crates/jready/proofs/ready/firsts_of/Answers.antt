@@ -1,9 +1,9 @@
 use Rattle.std.proofs.Common.{◌≡◌, ◌+◌, ◌<◌, ℕ, List, [], ◌∷◌, length, get_or, ap, sym, subst, ◌∙◌, arith}
 use Rattle.std.proofs.lemmas.List.{length-append}
 use Rattle.jclass.specs.declared.class.ClassParts.{ClassParts}
-use Rattle.jprogram.specs.declared.part.CodePart.{CodePart}
-use Rattle.jready.specs.Numbers.{AreFirstsTo, method_count}
-use Rattle.jready.proofs.Counting.{before_next, firsts_end, firsts_more}
+use Rattle.jresolution.specs.declared.jprogram.part.CodePart.{CodePart}
+use Rattle.jready.specs.MethodNumbers.{AreFirstsTo, method_count}
+use Rattle.jready.proofs.MethodNumbers.{before_next, firsts_end, firsts_more}
 use Rattle.jready.proofs.ready.firsts_of.Goals as goal
 
 pub loop-part-preserved : goal.loop-part-preserved

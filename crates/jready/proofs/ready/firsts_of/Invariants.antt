@@ -1,5 +1,5 @@
 use Rattle.std.proofs.Common.{◌≡◌, length}
-use Rattle.jready.specs.Numbers.{AreFirstsTo, methods_before}
+use Rattle.jready.specs.MethodNumbers.{AreFirstsTo, methods_before}
 use Rattle.jready.proofs.ready.firsts_of.Given as goal
 
 abbrev pub invariant-loop-part : goal.invariant-loop-part

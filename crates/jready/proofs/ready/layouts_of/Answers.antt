@@ -1,6 +1,6 @@
 use Rattle.std.proofs.Common.{sym, subst}
-use Rattle.jprogram.specs.Standing.{StandsInOrder}
-use Rattle.jlinking.specs.jlink.Standing.{in_order}
+use Rattle.jresolution.specs.jprogram.OrderedPrograms.{StandsInOrder}
+use Rattle.jlinking.specs.jlink.ClassOrder.{in_order}
 use Rattle.jready.proofs.ready.layouts_of.Goals as goal
 
 pub of-requires : goal.of-requires

@@ -1,9 +1,9 @@
 use Rattle.std.proofs.Common.{◌≡◌, ◌+◌, ◌<◌, ℕ, List, length, get_or, ap, subst, ◌∙◌, arith}
 use Rattle.jclass.specs.declared.class.ClassParts.{ClassParts}
-use Rattle.jprogram.specs.declared.part.CodePart.{CodePart}
-use Rattle.jready.specs.Numbers.{method_count}
-use Rattle.jready.specs.Prepared.{AreOwn}
-use Rattle.jready.proofs.Counting.{before_next, numbered_more}
+use Rattle.jresolution.specs.declared.jprogram.part.CodePart.{CodePart}
+use Rattle.jready.specs.MethodNumbers.{method_count}
+use Rattle.jready.specs.PreparedPrograms.{AreOwn}
+use Rattle.jready.proofs.MethodNumbers.{before_next, numbered_more}
 use Rattle.jready.proofs.ready.methods_of.Goals as goal
 
 pub loop-i-preserved : goal.loop-i-preserved

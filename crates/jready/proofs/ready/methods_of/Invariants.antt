@@ -1,7 +1,7 @@
 use Rattle.std.proofs.Common.{◌≡◌, length}
-use Rattle.jready.specs.Methods.{AreMethods}
-use Rattle.jready.specs.Numbers.{methods_before}
-use Rattle.jready.specs.Prepared.{AreNumbered}
+use Rattle.jready.specs.MethodTables.{AreMethods}
+use Rattle.jready.specs.MethodNumbers.{methods_before}
+use Rattle.jready.specs.PreparedPrograms.{AreNumbered}
 use Rattle.jready.proofs.ready.methods_of.Given as goal
 
 abbrev pub invariant-loop-i : goal.invariant-loop-i

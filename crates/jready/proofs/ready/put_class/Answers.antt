@@ -1,7 +1,7 @@
 use Rattle.std.proofs.Common.{◌≡◌, ◌+◌, [], ◌∷◌, length, ap, ◌∙◌, arith}
 use Rattle.std.proofs.lemmas.List.{length-append}
-use Rattle.jmeaning.proofs.JusesProofs.Spans.{grows_on}
-use Rattle.jready.proofs.Counting.{own_more}
+use Rattle.jresolution.proofs.JusesProofs.Spans.{grows_on}
+use Rattle.jready.proofs.MethodNumbers.{own_more}
 use Rattle.jready.proofs.ready.put_class.Goals as goal
 
 pub loop-method-preserved : goal.loop-method-preserved

@@ -1,7 +1,7 @@
 use Rattle.std.proofs.Common.{◌≡◌, ◌+◌, length}
-use Rattle.jmeaning.specs.juses.Tables.{Grows}
-use Rattle.jready.specs.Methods.{AreMethods}
-use Rattle.jready.specs.Prepared.{AreOwn}
+use Rattle.jresolution.specs.juses.PoolTables.{Grows}
+use Rattle.jready.specs.MethodTables.{AreMethods}
+use Rattle.jready.specs.PreparedPrograms.{AreOwn}
 use Rattle.jready.proofs.ready.put_class.Given as goal
 
 abbrev pub invariant-loop-method : goal.invariant-loop-method

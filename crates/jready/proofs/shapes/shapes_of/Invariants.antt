@@ -1,4 +1,4 @@
-use Rattle.jready.specs.Shaped.{AreShapesTo}
+use Rattle.jready.specs.ClassShapes.{AreShapesTo}
 use Rattle.jready.proofs.shapes.shapes_of.Given as goal
 
 abbrev pub invariant-loop-k : goal.invariant-loop-k

@@ -1,6 +1,6 @@
 use Rattle.std.proofs.Common.{◌≡◌, drop}
-use Rattle.jground.specs.jbase.First.{first_some}
-use Rattle.jmodel.specs.jmachine.Opening.{value_in}
+use Rattle.jground.specs.jbase.FirstFaults.{first_some}
+use Rattle.jsemantics.specs.jmachine.OpeningState.{value_in}
 use Rattle.jready.proofs.statics.constant_index.Given as goal
 
 abbrev pub invariant-loop-attribute : goal.invariant-loop-attribute

@@ -2,7 +2,7 @@ use Rattle.std.proofs.Common.{◌≡◌, ◌<◌, ◌++◌, List, length, get_or
 use Rattle.jclass.specs.declared.class.ClassParts.{ClassParts}
 use Rattle.jclass.specs.declared.class.MemberInfo.{MemberInfo}
 use Rattle.jready.specs.Statics.{AreStatics, IsStatic}
-use Rattle.jready.proofs.Beginning.{own, own_passed, own_put}
+use Rattle.jready.proofs.StaticDefaults.{own, own_passed, own_put}
 use Rattle.jready.proofs.statics.put_statics.Goals as goal
 use Rattle.jready.proofs.statics.put_statics.Goals.{then-is_static+in_ok-row_of+in_ok-push, else-is_static}
 

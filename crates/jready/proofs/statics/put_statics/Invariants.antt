@@ -1,8 +1,8 @@
 use Rattle.std.proofs.Common.{List, ◌++◌, take}
 use Rattle.jclass.specs.declared.class.MemberInfo.{MemberInfo}
-use Rattle.jprogram.specs.declared.part.CodePart.{CodePart}
+use Rattle.jresolution.specs.declared.jprogram.part.CodePart.{CodePart}
 use Rattle.jready.specs.Statics.{AreStatics}
-use Rattle.jready.proofs.Beginning.{own}
+use Rattle.jready.proofs.StaticDefaults.{own}
 use Rattle.jready.proofs.statics.put_statics.Given as goal
 
 abbrev pub invariant-loop-field : goal.invariant-loop-field

@@ -1,12 +1,12 @@
 use Rattle.std.proofs.Common.{◌≡◌, ℕ, List, Option, ap, subst, ◌∙◌}
 use Rattle.std.specs.Prelude.{option_and_then, slice_get, unwrap_or}
-use Rattle.jground.specs.declared.jops.value.Value.{Value}
-use Rattle.jmeaning.specs.jlayout.Layout.{element}
-use Rattle.jmodel.specs.jmachine.Narrowing.{narrowed}
-use Rattle.jmodel.specs.jmachine.Opening.{value_of}
-use Rattle.jready.specs.Exact.{narrow}
+use Rattle.jvalues.specs.declared.jops.value.Value.{Value}
+use Rattle.jresolution.specs.jlayout.FieldLayout.{element}
+use Rattle.jsemantics.specs.jmachine.Narrowing.{narrowed}
+use Rattle.jsemantics.specs.jmachine.OpeningState.{value_of}
+use Rattle.jready.specs.InlineOperands.{narrow}
 use Rattle.jready.specs.Statics.{nothing}
-use Rattle.jready.proofs.Beginning.{cell_is, static_is}
+use Rattle.jready.proofs.StaticDefaults.{cell_is, static_is}
 use Rattle.jready.proofs.statics.row_of.Goals as goal
 
 pub returns : goal.returns

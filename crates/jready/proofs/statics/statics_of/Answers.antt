@@ -1,6 +1,6 @@
 use Rattle.std.proofs.Common.{◌≡◌, ◌<◌, List, length, get_or, subst}
-use Rattle.jprogram.specs.declared.part.CodePart.{CodePart}
-use Rattle.jready.proofs.Beginning.{class_put}
+use Rattle.jresolution.specs.declared.jprogram.part.CodePart.{CodePart}
+use Rattle.jready.proofs.StaticDefaults.{class_put}
 use Rattle.jready.proofs.statics.statics_of.Goals as goal
 
 pub loop-i-preserved : goal.loop-i-preserved

@@ -1,6 +1,6 @@
 use Rattle.std.proofs.Common.{◌≡◌, take}
 use Rattle.std.specs.List.{count_by}
-use Rattle.jprogram.specs.Parts.{has_code}
+use Rattle.jresolution.specs.jprogram.ClassFileParts.{has_code}
 use Rattle.jshow.proofs.counting.methods_in.Given as goal
 
 abbrev pub invariant-loop-method : goal.invariant-loop-method

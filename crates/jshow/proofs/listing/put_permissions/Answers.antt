@@ -1,6 +1,6 @@
 use Rattle.std.proofs.lemmas.Result.{err_from_is_err_and}
 use Rattle.jshow.specs.Listings.{permission_line}
-use Rattle.jshow.proofs.Items.{cut_item}
+use Rattle.jshow.proofs.ItemLines.{cut_item}
 use Rattle.jshow.proofs.Lines.{wrote_front}
 use Rattle.jshow.proofs.listing.put_permissions.Goals as goal
 

@@ -1,5 +1,5 @@
 use Rattle.std.proofs.Common.{◌≡◌, ◌≤◌, take}
-use Rattle.jground.specs.jbase.Causes.{appended}
+use Rattle.jground.specs.jbase.FaultCauses.{appended}
 use Rattle.jshow.specs.Listings.{permission_lines}
 use Rattle.jshow.proofs.listing.put_permissions.Given as goal
 

@@ -1,4 +1,4 @@
-use Rattle.jstepping.proofs.JtoldProofs.Told.{tells}
+use Rattle.jstepping.proofs.JtoldProofs.MessageReceivers.{tells}
 use Rattle.jstepping.proofs.jtold.told_law.Goals as goal
 
 pub returns : goal.returns

@@ -1,6 +1,6 @@
 use Rattle.std.proofs.Common.{◌∙◌, sym, ap, subst}
 use Rattle.jgen.specs.declared.making.MadeJob.{MadeJob}
-use Rattle.jrights.specs.jio.Memory.{files_of}
+use Rattle.joutput.specs.jio.MemoryDevices.{files_of}
 use Rattle.jstore.proofs.MadePaths.{AreNamed, all_named, named_front}
 use Rattle.jstore.proofs.held.held_files.Goals as goal
 

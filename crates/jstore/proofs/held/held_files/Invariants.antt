@@ -1,7 +1,7 @@
 use Rattle.std.proofs.Common.{◌≡◌, map}
 use Rattle.std.specs.Vec.Iter.{into_iter_items}
-use Rattle.jrights.specs.jio.Memory.{files_of}
-use Rattle.jstore.specs.Made.{as_held}
+use Rattle.joutput.specs.jio.MemoryDevices.{files_of}
+use Rattle.jstore.specs.GeneratedShelves.{as_held}
 use Rattle.jstore.proofs.MadePaths.{AreNamed}
 use Rattle.jstore.proofs.held.held_files.Given as goal
 

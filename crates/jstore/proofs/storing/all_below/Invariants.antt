@@ -1,6 +1,6 @@
 use Rattle.std.proofs.Common.{◌≡◌, map}
 use Rattle.jstore.specs.Folders.{class_below, path_of}
-use Rattle.jstore.specs.Storing.{seen}
+use Rattle.jstore.specs.FileWrites.{seen}
 use Rattle.jstore.proofs.storing.all_below.Given as goal
 
 abbrev pub invariant-loop-file : goal.invariant-loop-file

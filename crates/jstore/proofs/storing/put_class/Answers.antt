@@ -1,5 +1,5 @@
 use Rattle.std.specs.Prelude.{codes, decimal}
-use Rattle.jrights.specs.jio.Text.{written}
+use Rattle.joutput.specs.jio.TextOutput.{written}
 use Rattle.jstore.proofs.WrittenUnits.{five}
 use Rattle.jstore.proofs.storing.put_class.Goals as goal
 

@@ -1,5 +1,5 @@
 use Rattle.std.proofs.Common.{◌≡◌, ◌++◌, take}
-use Rattle.jrights.specs.jio.Text.{written}
+use Rattle.joutput.specs.jio.TextOutput.{written}
 use Rattle.jstore.proofs.storing.put_units.Given as goal
 
 abbrev pub invariant-loop-unit : goal.invariant-loop-unit

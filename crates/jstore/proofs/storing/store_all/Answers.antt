@@ -1,5 +1,5 @@
 use Rattle.std.proofs.Common.{◌∙◌, refl, sym, arith}
-use Rattle.jground.specs.jbase.Causes.{Rose}
+use Rattle.jground.specs.jbase.FaultCauses.{Rose}
 use Rattle.jstore.proofs.StoredFiles.{front_at, store_more, with_none}
 use Rattle.jstore.proofs.storing.store_all.Goals as goal
 

@@ -1,5 +1,5 @@
 use Rattle.std.proofs.Common.{◌≡◌, ◌≤◌, map, take}
-use Rattle.jstore.specs.Storing.{seen, with_files}
+use Rattle.jstore.specs.FileWrites.{seen, with_files}
 use Rattle.jstore.proofs.storing.store_all.Given as goal
 
 abbrev pub invariant-loop-file : goal.invariant-loop-file

@@ -2,8 +2,8 @@ use Rattle.std.proofs.Common.{◌≡◌, ◌<◌, length, true, arith, rules}
 use Rattle.std.specs.Prelude.{slice_set, slice_get}
 use Rattle.std.proofs.lemmas.List.{length-set, length-map}
 use Rattle.std.proofs.lemmas.Option.{slice_get-map}
-use Rattle.jthreads.specs.Table.{is_runnable, table_after_end, thread_at, woken}
-use Rattle.jthreads.proofs.Numbers.{every, passing, rising, within}
+use Rattle.jthreads.specs.ThreadTables.{is_runnable, table_after_end, thread_at, woken}
+use Rattle.jthreads.proofs.RunnableNumbers.{every, passing, rising, within}
 use Rattle.jthreads.proofs.Waits.{from_woken, runs_again}
 use Rattle.jthreads.proofs.laws.thread_laws.Goals as goal
 

@@ -1,6 +1,6 @@
 use Rattle.std.proofs.Common.{◌≡◌, ◌++◌, ◌∷◌, arith, ap, sym, ◌∙◌}
-use Rattle.jthreads.specs.Kept.{alone}
-use Rattle.jthreads.proofs.Keeping.{taken_out}
+use Rattle.jthreads.specs.ThreadQueues.{alone}
+use Rattle.jthreads.proofs.ThreadUpdates.{taken_out}
 use Rattle.jthreads.proofs.order.keep_order.Goals as goal
 
 pub returns-in-true-false-clause-items : goal.returns-in-true-false-clause-items

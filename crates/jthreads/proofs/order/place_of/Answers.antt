@@ -1,7 +1,7 @@
 use Rattle.std.proofs.Common.{◌∷◌, arith, rules}
 use Rattle.std.specs.Prelude.{nat_lt}
 use Rattle.std.proofs.lemmas.List.Sorted.{IsPartitionPoint-from_clause}
-use Rattle.jthreads.proofs.Placing.{parted, place, rest_high, rest_with}
+use Rattle.jthreads.proofs.RunnableNeighbours.{parted, place, rest_high, rest_with}
 use Rattle.jthreads.proofs.order.place_of.Goals as goal
 
 pub returns-clause-bound : goal.returns-clause-bound

@@ -1,5 +1,5 @@
 use Rattle.std.proofs.Common.{◌≡◌, ap, sym, ◌∙◌, arith}
-use Rattle.jtypes.specs.Fitting.{array_fits, is_above_arrays}
+use Rattle.jtypes.specs.Assignability.{array_fits, is_above_arrays}
 use Rattle.jtypes.proofs.Dimensions.{as_many_fit, fewer_fail, more_fit}
 use Rattle.jtypes.proofs.fitting.array_fits.Goals as goal
 

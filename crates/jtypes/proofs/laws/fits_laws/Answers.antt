@@ -1,4 +1,4 @@
-use Rattle.jtypes.proofs.Along.{fits_itself}
+use Rattle.jtypes.proofs.SubtypeLaws.{fits_itself}
 use Rattle.jtypes.proofs.laws.fits_laws.Goals as goal
 
 pub returns-clause-itself : goal.returns-clause-itself

@@ -1,4 +1,4 @@
-use Rattle.jtypes.proofs.Framing.{flag_kept, frame_along, frame_itself, no_long, tops_fit}
+use Rattle.jtypes.proofs.FrameFits.{flag_kept, frame_along, frame_itself, no_long, tops_fit}
 use Rattle.jtypes.proofs.laws.frame_laws.Goals as goal
 
 pub returns-clause-itself : goal.returns-clause-itself

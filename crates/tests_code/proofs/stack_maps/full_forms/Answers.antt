@@ -1,6 +1,6 @@
 use Rattle.std.proofs.Common.{refl}
-use Rattle.jground.specs.jformat.States.{fits_from}
-use Rattle.jparts.specs.jmaps.Frames.{map_type}
+use Rattle.jground.specs.jformat.StatefulFormats.{fits_from}
+use Rattle.jparts.specs.jmaps.StackMapFormat.{map_type}
 use Rattle.tests_code.proofs.stack_maps.full_forms.Goals as goal
 
 pub write_maps-requires : goal.write_maps-requires

@@ -1,7 +1,7 @@
 use Rattle.std.proofs.Common.{◌≡◌, Some, None, sym, ap, ◌∙◌}
-use Rattle.jadder.specs.Added.{added, put_behind}
-use Rattle.jadder.specs.Numbers.{number_at, number_in}
-use Rattle.jadder.proofs.Numbered.{added_behind, added_there, least_there}
+use Rattle.jadder.specs.EntryInterning.{added, put_behind}
+use Rattle.jadder.specs.ConstantNumbers.{number_at, number_in}
+use Rattle.jadder.proofs.NumberedPools.{added_behind, added_there, least_there}
 use Rattle.jadder.proofs.adder.Adder.add.Goals as goal
 
 pub returns-in-Some-clause-value : goal.returns-in-Some-clause-value

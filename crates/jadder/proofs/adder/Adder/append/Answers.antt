@@ -1,10 +1,10 @@
 use Rattle.std.proofs.Common.{◌≡◌, ◌+◌, ◌≤◌, None, length, sym, ap, arith}
 use Rattle.std.specs.Prelude.{IsTrue}
 use Rattle.std.specs.List.{position}
-use Rattle.jparts.specs.jpool.Adding.{laid, names_text}
-use Rattle.jadder.specs.Added.{same}
-use Rattle.jparts.proofs.JpoolProofs.Grown.{pool_with}
-use Rattle.jadder.proofs.Numbered.{least_with, numbered_with}
+use Rattle.jparts.specs.jpool.EntryLayouts.{laid, names_text}
+use Rattle.jadder.specs.EntryInterning.{same}
+use Rattle.jparts.proofs.JpoolProofs.PoolExtension.{pool_with}
+use Rattle.jadder.proofs.NumberedPools.{least_with, numbered_with}
 use Rattle.jadder.proofs.adder.Adder.append.Goals as goal
 
 pub push-requires : goal.push-requires

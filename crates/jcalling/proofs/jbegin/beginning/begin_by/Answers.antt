@@ -1,4 +1,4 @@
-use Rattle.jcalling.proofs.JbeginProofs.Begun.{stuck_begins}
+use Rattle.jcalling.proofs.JbeginProofs.ThreadStarts.{stuck_begins}
 use Rattle.jcalling.proofs.jbegin.beginning.begin_by.Goals as goal
 
 pub push_run-requires-clause-within : goal.push_run-requires-clause-within

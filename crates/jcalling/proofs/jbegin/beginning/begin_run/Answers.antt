@@ -1,4 +1,4 @@
-use Rattle.jcalling.proofs.JbeginProofs.Begun.{run_begins}
+use Rattle.jcalling.proofs.JbeginProofs.ThreadStarts.{run_begins}
 use Rattle.jcalling.proofs.jbegin.beginning.begin_run.Goals as goal
 
 pub returns-clause-comes : goal.returns-clause-comes

@@ -1,4 +1,4 @@
-use Rattle.jcalling.proofs.JbeginProofs.Begun.{step_ends}
+use Rattle.jcalling.proofs.JbeginProofs.ThreadStarts.{step_ends}
 use Rattle.jcalling.proofs.jbegin.beginning.begin_thread.Goals as goal
 
 pub returns-then-m-eq0-clause-comes : goal.returns-then-m-eq0-clause-comes

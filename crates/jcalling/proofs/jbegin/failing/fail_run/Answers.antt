@@ -1,4 +1,4 @@
-use Rattle.jcalling.proofs.JbeginProofs.Begun.{fails_begins, full_begins, lives_in}
+use Rattle.jcalling.proofs.JbeginProofs.ThreadStarts.{fails_begins, full_begins, lives_in}
 use Rattle.jcalling.proofs.jbegin.failing.fail_run.Goals as goal
 
 pub returns-then-not-room-clause-comes : goal.returns-then-not-room-clause-comes

@@ -1,4 +1,4 @@
-use Rattle.jcalling.proofs.JbeginProofs.Begun.{fails_in}
+use Rattle.jcalling.proofs.JbeginProofs.ThreadStarts.{fails_in}
 use Rattle.jcalling.proofs.jbegin.failing.raise_first.Goals as goal
 
 pub fail_beginning-requires : goal.fail_beginning-requires

@@ -1,4 +1,4 @@
-use Rattle.jcalling.proofs.JbeginProofs.Begun.{push_none, push_ready, push_went}
+use Rattle.jcalling.proofs.JbeginProofs.ThreadStarts.{push_none, push_ready, push_went}
 use Rattle.jcalling.proofs.jbegin.pushing.push_run.Goals as goal
 
 pub returns-in_default-clause-comes : goal.returns-in_default-clause-comes

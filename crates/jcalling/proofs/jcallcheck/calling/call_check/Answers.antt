@@ -1,7 +1,7 @@
 use Rattle.std.proofs.Common.{None, Some}
-use Rattle.jmodel.proofs.JguardProofs.Once.{asked_nothing}
-use Rattle.jstepping.specs.jcore.Answering.{asked_of}
-use Rattle.jcalling.proofs.JcallcheckProofs.Deciding.{found_as, nothing_answered}
+use Rattle.jguard.proofs.SingleAsks.{asked_nothing}
+use Rattle.jstepping.specs.jcore.AnsweredCalls.{asked_of}
+use Rattle.jcalling.proofs.JcallcheckProofs.CheckAnswers.{found_as, nothing_answered}
 use Rattle.jcalling.proofs.jcallcheck.calling.call_check.Goals as goal
 
 pub returns-in-None-clause-answered : goal.returns-in-None-clause-answered

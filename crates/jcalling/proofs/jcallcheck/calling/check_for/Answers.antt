@@ -1,10 +1,10 @@
 use Rattle.std.proofs.Common.{◌∙◌, ap, sym, Some}
 use Rattle.jlibcalls.specs.declared.jchecks.asking.Asked.TheVariants as asks
-use Rattle.jstepping.specs.jcore.Machines.{store_of, things_of}
-use Rattle.jmodel.proofs.JguardProofs.Once.{asked_nothing, asked_once}
-use Rattle.jstepping.specs.jcore.Answering.{asked_of}
-use Rattle.jcalling.specs.jcallcheck.Finding.{ask_by}
-use Rattle.jcalling.proofs.JcallcheckProofs.Deciding.{asked_is, asks_as, asks_it, asks_some, decided, held_as, known_ask, none_row, null_row, quiet, stuck_comes}
+use Rattle.jstepping.specs.jcore.MachineInvariants.{store_of, things_of}
+use Rattle.jguard.proofs.SingleAsks.{asked_nothing, asked_once}
+use Rattle.jstepping.specs.jcore.AnsweredCalls.{asked_of}
+use Rattle.jcalling.specs.jcallcheck.CheckRequests.{ask_by}
+use Rattle.jcalling.proofs.JcallcheckProofs.CheckAnswers.{asked_is, asks_as, asks_it, asks_some, decided, held_as, known_ask, none_row, null_row, quiet, stuck_comes}
 use Rattle.jcalling.proofs.jcallcheck.calling.check_for.Goals as goal
 
 pub ask-requires : goal.ask-requires

@@ -1,5 +1,5 @@
 use Rattle.std.proofs.Common.{◌∙◌, arith, sym}
-use Rattle.jstepping.specs.jcore.Machines.{things_of}
+use Rattle.jstepping.specs.jcore.MachineInvariants.{things_of}
 use Rattle.jcalling.proofs.JcallcheckProofs.Operands.{fewer, kept_found, kept_none, kept_other}
 use Rattle.jcalling.proofs.jcallcheck.finding.kept_check_of.Goals as goal
 

@@ -1,4 +1,4 @@
-use Rattle.jcalling.proofs.JcallcheckProofs.Came.{fixed_on, handled_stand, null_does}
+use Rattle.jcalling.proofs.JcallcheckProofs.CheckOutcomes.{fixed_on, handled_stand, null_does}
 use Rattle.jcalling.proofs.jcallcheck.judging.check_null.Goals as goal
 
 pub settle_raised-requires-clause-machine : goal.settle_raised-requires-clause-machine

@@ -1,7 +1,7 @@
 use Rattle.std.proofs.Common.{subst}
 use Rattle.jlibcalls.specs.declared.jchecks.judging.Judged.{Judged}
-use Rattle.jcalling.proofs.JcallcheckProofs.Came.{deny_does, fixed_on, grant_does, handled_stand, is_ready, stays_fixed}
-use Rattle.jcalling.specs.jcallcheck.Coming.{JudgedOn}
+use Rattle.jcalling.proofs.JcallcheckProofs.CheckOutcomes.{deny_does, fixed_on, grant_does, handled_stand, is_ready, stays_fixed}
+use Rattle.jcalling.specs.jcallcheck.CheckOutcomes.{JudgedOn}
 use Rattle.jcalling.proofs.jcallcheck.judging.decide.Goals as goal
 
 pub returns-in-Granted-clause-comes : goal.returns-in-Granted-clause-comes

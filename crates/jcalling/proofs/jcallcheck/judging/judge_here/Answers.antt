@@ -1,9 +1,9 @@
 use Rattle.std.proofs.Common.{refl}
 use Rattle.jlib.specs.declared.classes.LibClass.TheVariants as lib
-use Rattle.jmodel.specs.jmachine.Security.{denial_message}
-use Rattle.jstepping.specs.jcore.Machines.{classes_of}
-use Rattle.jcalling.proofs.JcallcheckProofs.Came.{judged_on}
-use Rattle.jcalling.proofs.JcallcheckProofs.Lasting.{few_of, machine_with, stand_of, told_stays}
+use Rattle.jsemantics.specs.jmachine.Security.{denial_message}
+use Rattle.jstepping.specs.jcore.MachineInvariants.{classes_of}
+use Rattle.jcalling.proofs.JcallcheckProofs.CheckOutcomes.{judged_on}
+use Rattle.jcalling.proofs.JcallcheckProofs.InvariantPreservation.{few_of, machine_with, stand_of, told_stays}
 use Rattle.jcalling.proofs.jcallcheck.judging.judge_here.Goals as goal
 
 pub judge-requires-clause-few : goal.judge-requires-clause-few

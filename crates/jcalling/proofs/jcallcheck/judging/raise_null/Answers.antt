@@ -1,7 +1,7 @@
 use Rattle.std.proofs.Common.{refl}
-use Rattle.jstepping.specs.jcore.Machines.{classes_of}
-use Rattle.jcalling.proofs.JcallcheckProofs.Came.{leaves_without, raised_on, stand_without}
-use Rattle.jcalling.proofs.JcallcheckProofs.Lasting.{few_of, machine_with, null_stays, stand_of}
+use Rattle.jstepping.specs.jcore.MachineInvariants.{classes_of}
+use Rattle.jcalling.proofs.JcallcheckProofs.CheckOutcomes.{leaves_without, raised_on, stand_without}
+use Rattle.jcalling.proofs.JcallcheckProofs.InvariantPreservation.{few_of, machine_with, null_stays, stand_of}
 use Rattle.jcalling.proofs.jcallcheck.judging.raise_null.Goals as goal
 
 pub shrink-requires : goal.shrink-requires

@@ -1,10 +1,10 @@
 use Rattle.std.proofs.Common.{None, Some}
 use Rattle.jlib.specs.declared.calls.LibCall.TheVariants as calls
 use Rattle.jlib.specs.declared.calls.RtCall.TheVariants as rt
-use Rattle.jmodel.specs.jmachine.Asked.{Enters}
-use Rattle.jmodel.proofs.JguardProofs.Once.{asked_nothing, asked_once}
-use Rattle.jstepping.specs.jcore.Answering.{asked_of}
-use Rattle.jcalling.proofs.JcallcontextProofs.Answered.{entering_answered, entering_as, entering_quiet, known_entering, none_answered}
+use Rattle.jsemantics.specs.jmachine.AccessQueries.{Enters}
+use Rattle.jguard.proofs.SingleAsks.{asked_nothing, asked_once}
+use Rattle.jstepping.specs.jcore.AnsweredCalls.{asked_of}
+use Rattle.jcalling.proofs.JcallcontextProofs.CallAnswers.{entering_answered, entering_as, entering_quiet, known_entering, none_answered}
 use Rattle.jcalling.proofs.jcallcontext.entering.call_enter.Goals as goal
 
 pub returns-in-None-clause-answered : goal.returns-in-None-clause-answered

@@ -1,7 +1,7 @@
-use Rattle.jground.specs.declared.jops.value.Value.TheVariants.{Ctx}
-use Rattle.jlibcalls.specs.jcontexts.Acting.{GivesOne}
-use Rattle.jstepping.specs.jcore.Machines.{classes_of}
-use Rattle.jcalling.proofs.JcallcontextProofs.Left.{few_of, framed_ready, gives_told, of_frames, stand_of}
+use Rattle.jvalues.specs.declared.jops.value.Value.TheVariants.{Ctx}
+use Rattle.jlibcalls.specs.jcontexts.ActionCalls.{GivesOne}
+use Rattle.jstepping.specs.jcore.MachineInvariants.{classes_of}
+use Rattle.jcalling.proofs.JcallcontextProofs.CallOutcomes.{few_of, framed_ready, gives_told, of_frames, stand_of}
 use Rattle.jcalling.proofs.jcallcontext.entering.give_context.Goals as goal
 
 pub enter-requires-clause-few : goal.enter-requires-clause-few

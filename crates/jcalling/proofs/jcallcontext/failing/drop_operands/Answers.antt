@@ -1,4 +1,4 @@
-use Rattle.jcalling.proofs.JcallcontextProofs.Left.{drops, few_of}
+use Rattle.jcalling.proofs.JcallcontextProofs.CallOutcomes.{drops, few_of}
 use Rattle.jcalling.proofs.jcallcontext.failing.drop_operands.Goals as goal
 
 pub shrink-requires : goal.shrink-requires

@@ -1,4 +1,4 @@
-use Rattle.jcalling.proofs.JcallcontextProofs.Left.{mid_comes, mid_fixed, mid_lives, mid_machine, mid_stands}
+use Rattle.jcalling.proofs.JcallcontextProofs.CallOutcomes.{mid_comes, mid_fixed, mid_lives, mid_machine, mid_stands}
 use Rattle.jcalling.proofs.jcallcontext.failing.fail_call.Goals as goal
 
 pub raise-requires-clause-machine : goal.raise-requires-clause-machine

@@ -1,5 +1,5 @@
-use Rattle.jcalling.proofs.JcallcontextProofs.Found.{entering_is}
-use Rattle.jcalling.proofs.JcallcontextProofs.Left.{few_of}
+use Rattle.jcalling.proofs.JcallcontextProofs.ContextRequests.{entering_is}
+use Rattle.jcalling.proofs.JcallcontextProofs.CallOutcomes.{few_of}
 use Rattle.jcalling.proofs.jcallcontext.finding.entering_found.Goals as goal
 
 pub find_entering-requires : goal.find_entering-requires

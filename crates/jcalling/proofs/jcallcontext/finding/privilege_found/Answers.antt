@@ -1,6 +1,6 @@
 use Rattle.std.proofs.Common.{sym}
-use Rattle.jcalling.proofs.JcallcontextProofs.Found.{privilege_is}
-use Rattle.jcalling.proofs.JcallcontextProofs.Left.{few_of}
+use Rattle.jcalling.proofs.JcallcontextProofs.ContextRequests.{privilege_is}
+use Rattle.jcalling.proofs.JcallcontextProofs.CallOutcomes.{few_of}
 use Rattle.jcalling.proofs.jcallcontext.finding.privilege_found.Goals as goal
 
 pub find_privilege-requires : goal.find_privilege-requires

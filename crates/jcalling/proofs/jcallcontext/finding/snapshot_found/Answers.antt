@@ -1,5 +1,5 @@
-use Rattle.jcalling.proofs.JcallcontextProofs.Found.{snapshot_is}
-use Rattle.jcalling.proofs.JcallcontextProofs.Left.{few_of}
+use Rattle.jcalling.proofs.JcallcontextProofs.ContextRequests.{snapshot_is}
+use Rattle.jcalling.proofs.JcallcontextProofs.CallOutcomes.{few_of}
 use Rattle.jcalling.proofs.jcallcontext.finding.snapshot_found.Goals as goal
 
 pub snapshotting-requires : goal.snapshotting-requires

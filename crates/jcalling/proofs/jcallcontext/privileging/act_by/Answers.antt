@@ -1,10 +1,10 @@
 use Rattle.jserving.specs.declared.jinvoke.faces.Target.TheVariants as ways
-use Rattle.jmodel.proofs.JguardProofs.Once.{asked_nothing, asked_once}
-use Rattle.jstepping.specs.jcore.Answering.{asked_of}
-use Rattle.jstepping.specs.jcore.Machines.{classes_of}
-use Rattle.jcalling.specs.jcallcontext.Finding.{privilege_of}
-use Rattle.jcalling.proofs.JcallcontextProofs.Found.{fails_answered, fails_silent, known_privilege, on_as, privilege_asked, privilege_quiet}
-use Rattle.jcalling.proofs.JcallcontextProofs.Found.{pushes_answered, stuck_answered, stuck_silent, within_as}
+use Rattle.jguard.proofs.SingleAsks.{asked_nothing, asked_once}
+use Rattle.jstepping.specs.jcore.AnsweredCalls.{asked_of}
+use Rattle.jstepping.specs.jcore.MachineInvariants.{classes_of}
+use Rattle.jcalling.specs.jcallcontext.ContextRequests.{privilege_of}
+use Rattle.jcalling.proofs.JcallcontextProofs.ContextRequests.{fails_answered, fails_silent, known_privilege, on_as, privilege_asked, privilege_quiet}
+use Rattle.jcalling.proofs.JcallcontextProofs.ContextRequests.{pushes_answered, stuck_answered, stuck_silent, within_as}
 use Rattle.jcalling.proofs.jcallcontext.privileging.act_by.Goals as goal
 
 pub returns-in-Stuck-clause-answered : goal.returns-in-Stuck-clause-answered

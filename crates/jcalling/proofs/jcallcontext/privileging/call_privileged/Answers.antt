@@ -1,8 +1,8 @@
 use Rattle.jlibcalls.specs.declared.jcontexts.wanting.Privileging.TheVariants as wants
-use Rattle.jmodel.proofs.JguardProofs.Once.{asked_nothing}
-use Rattle.jstepping.specs.jcore.Answering.{asked_of}
-use Rattle.jcalling.proofs.JcallcontextProofs.Answered.{none_answered}
-use Rattle.jcalling.proofs.JcallcontextProofs.Found.{null_answered, wanted_as}
+use Rattle.jguard.proofs.SingleAsks.{asked_nothing}
+use Rattle.jstepping.specs.jcore.AnsweredCalls.{asked_of}
+use Rattle.jcalling.proofs.JcallcontextProofs.CallAnswers.{none_answered}
+use Rattle.jcalling.proofs.JcallcontextProofs.ContextRequests.{null_answered, wanted_as}
 use Rattle.jcalling.proofs.jcallcontext.privileging.call_privileged.Goals as goal
 
 pub returns-in-Stuck-clause-answered : goal.returns-in-Stuck-clause-answered

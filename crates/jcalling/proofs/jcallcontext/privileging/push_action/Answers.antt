@@ -1,7 +1,7 @@
 use Rattle.jlibcalls.specs.declared.jcontexts.acting.Acted.TheVariants as ways
-use Rattle.jlibcalls.specs.jcontexts.Acting.{CallsAction}
-use Rattle.jstepping.specs.jcore.Machines.{classes_of}
-use Rattle.jcalling.proofs.JcallcontextProofs.Left.{acts_as, begun_told, codeless_comes, few_of, framed_ready, of_frames, stand_of, stands_as}
+use Rattle.jlibcalls.specs.jcontexts.ActionCalls.{CallsAction}
+use Rattle.jstepping.specs.jcore.MachineInvariants.{classes_of}
+use Rattle.jcalling.proofs.JcallcontextProofs.CallOutcomes.{acts_as, begun_told, codeless_comes, few_of, framed_ready, of_frames, stand_of, stands_as}
 use Rattle.jcalling.proofs.jcallcontext.privileging.push_action.Goals as goal
 
 pub act-requires : goal.act-requires

@@ -1,4 +1,4 @@
-use Rattle.jcalling.proofs.JcallcontextProofs.Found.{target_as}
+use Rattle.jcalling.proofs.JcallcontextProofs.ContextRequests.{target_as}
 use Rattle.jcalling.proofs.jcallcontext.privileging.run_wanted.Goals as goal
 
 pub act_by-requires-clause-calling : goal.act_by-requires-clause-calling

@@ -1,8 +1,8 @@
 use Rattle.std.proofs.Common.{None, Some}
-use Rattle.jmodel.specs.jmachine.Asked.{Snapshots}
-use Rattle.jmodel.proofs.JguardProofs.Once.{asked_nothing, asked_once}
-use Rattle.jstepping.specs.jcore.Answering.{asked_of}
-use Rattle.jcalling.proofs.JcallcontextProofs.Answered.{known_snapshot, none_answered, snapshot_answered, snapshot_as, snapshot_quiet}
+use Rattle.jsemantics.specs.jmachine.AccessQueries.{Snapshots}
+use Rattle.jguard.proofs.SingleAsks.{asked_nothing, asked_once}
+use Rattle.jstepping.specs.jcore.AnsweredCalls.{asked_of}
+use Rattle.jcalling.proofs.JcallcontextProofs.CallAnswers.{known_snapshot, none_answered, snapshot_answered, snapshot_as, snapshot_quiet}
 use Rattle.jcalling.proofs.jcallcontext.snapping.call_snapshot.Goals as goal
 
 pub returns-in-None-clause-answered : goal.returns-in-None-clause-answered

@@ -1,9 +1,9 @@
 use Rattle.std.proofs.Common.{true, false, Some}
-use Rattle.jlibcalls.specs.jcontexts.Kept.{with_kept}
+use Rattle.jlibcalls.specs.jcontexts.KeptContexts.{with_kept}
 use Rattle.jlibcalls.specs.jcontexts.Snapshots.{Snapshots}
-use Rattle.jstepping.specs.jcore.Left.{left_as}
-use Rattle.jstepping.specs.jcore.Machines.{classes_of, things_of}
-use Rattle.jcalling.proofs.JcallcontextProofs.Left.{few_of, full_comes, kept_ready, of_frames, snaps_as, snaps_told, stand_of}
+use Rattle.jstepping.specs.jcore.MidStepMachines.{left_as}
+use Rattle.jstepping.specs.jcore.MachineInvariants.{classes_of, things_of}
+use Rattle.jcalling.proofs.JcallcontextProofs.CallOutcomes.{few_of, full_comes, kept_ready, of_frames, snaps_as, snaps_told, stand_of}
 use Rattle.jcalling.proofs.jcallcontext.snapping.give_snapshot.Goals as goal
 
 pub snapshot-requires-clause-few : goal.snapshot-requires-clause-few

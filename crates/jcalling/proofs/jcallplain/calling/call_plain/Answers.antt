@@ -1,7 +1,7 @@
 use Rattle.std.proofs.Common.{List, subst}
-use Rattle.jrights.specs.declared.jtrace.event.Event.{Event}
-use Rattle.jcalling.specs.jcallplain.Ways.{Settles}
-use Rattle.jcalling.proofs.JcallplainProofs.Leaving.{left_stands, ran_comes}
+use Rattle.joutput.specs.declared.jtrace.event.Event.{Event}
+use Rattle.jcalling.specs.jcallplain.CallRowOutcomes.{Settles}
+use Rattle.jcalling.proofs.JcallplainProofs.LibraryOutcomes.{left_stands, ran_comes}
 use Rattle.jcalling.proofs.jcallplain.calling.call_plain.Goals as goal
 
 pub settle-requires : goal.settle-requires

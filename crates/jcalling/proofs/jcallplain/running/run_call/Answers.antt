@@ -1,4 +1,4 @@
-use Rattle.jcalling.proofs.JcallplainProofs.Ran.{ran_in}
+use Rattle.jcalling.proofs.JcallplainProofs.LibraryPreservation.{ran_in}
 use Rattle.jcalling.proofs.jcallplain.running.run_call.Goals as goal
 
 pub returns-clause-ran : goal.returns-clause-ran

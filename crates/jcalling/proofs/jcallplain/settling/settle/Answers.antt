@@ -1,4 +1,4 @@
-use Rattle.jcalling.proofs.JcallplainProofs.Settled.{full_settles, raises_settle, stuck_settles, went_settles}
+use Rattle.jcalling.proofs.JcallplainProofs.RowCompletion.{full_settles, raises_settle, stuck_settles, went_settles}
 use Rattle.jcalling.proofs.jcallplain.settling.settle.Goals as goal
 
 pub thrown_class-requires : goal.thrown_class-requires

@@ -1,7 +1,7 @@
 use Rattle.std.proofs.Common.{◌≡◌, ◌∙◌, ℕ, None, subst}
-use Rattle.jprogram.specs.declared.member.MethodId.{MethodId}
-use Rattle.jmodel.specs.jmachine.Steps.{fetched}
-use Rattle.jcalling.proofs.JexecuteProofs.Fetched.{fetches_off, fetches_some}
+use Rattle.jresolution.specs.declared.jprogram.member.MethodId.{MethodId}
+use Rattle.jsemantics.specs.jmachine.MachineSteps.{fetched}
+use Rattle.jcalling.proofs.JexecuteProofs.InstructionFetch.{fetches_off, fetches_some}
 use Rattle.jcalling.proofs.jexecute.advancing.instr_at.Goals as goal
 
 pub returns-in-None : goal.returns-in-None

@@ -2,7 +2,7 @@ use Rattle.std.proofs.Common.{refl}
 use Rattle.std.specs.Prelude.{length}
 use Rattle.jready.specs.declared.instr.Instr.TheVariants as instrs
 use Rattle.jready.specs.declared.instr.Push.TheVariants as pushes
-use Rattle.jcalling.proofs.JexecuteProofs.Advanced.{alike_there, all_alike_there, all_stand, fetches_same, is_there, load_there, off_advances, ok_celled, others_advance, refs_there}
+use Rattle.jcalling.proofs.JexecuteProofs.FrameSteps.{alike_there, all_alike_there, all_stand, fetches_same, is_there, load_there, off_advances, ok_celled, others_advance, refs_there}
 use Rattle.jcalling.proofs.jexecute.advancing.step_at.Goals as goal
 
 pub returns-in-Off-clause-row : goal.returns-in-Off-clause-row

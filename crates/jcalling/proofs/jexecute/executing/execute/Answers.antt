@@ -1,4 +1,4 @@
-use Rattle.jcalling.proofs.JexecuteProofs.Ended.{executes, fixed_then, moved_lives, moved_machine, moved_stands}
+use Rattle.jcalling.proofs.JexecuteProofs.StepOutcomes.{executes, fixed_then, moved_lives, moved_machine, moved_stands}
 use Rattle.jcalling.proofs.jexecute.executing.execute.Goals as goal
 
 pub finish-requires-clause-machine : goal.finish-requires-clause-machine

@@ -1,5 +1,5 @@
 use Rattle.jstepping.specs.declared.jstep.outcomes.Stepped.TheVariants as steps
-use Rattle.jcalling.proofs.JexecuteProofs.Ended.{finish_as}
+use Rattle.jcalling.proofs.JexecuteProofs.StepOutcomes.{finish_as}
 use Rattle.jcalling.proofs.jexecute.executing.finish.Goals as goal
 
 pub returns-in-Went-clause-done : goal.returns-in-Went-clause-done

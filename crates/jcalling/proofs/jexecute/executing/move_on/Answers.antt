@@ -1,5 +1,5 @@
-use Rattle.jcalling.proofs.JexecuteProofs.Moved.{moves}
-use Rattle.jcalling.proofs.JexecuteProofs.Referred.{lasting}
+use Rattle.jcalling.proofs.JexecuteProofs.MachineSteps.{moves}
+use Rattle.jcalling.proofs.JexecuteProofs.ReferenceSteps.{lasting}
 use Rattle.jcalling.proofs.jexecute.executing.move_on.Goals as goal
 
 pub advance-requires-clause-lasting : goal.advance-requires-clause-lasting

@@ -1,5 +1,5 @@
-use Rattle.jcalling.proofs.JexecuteProofs.Ended.{fixed_then}
-use Rattle.jcalling.proofs.JexecuteProofs.Hastened.{last_closes, last_lives, last_machine, last_stands, none_closes}
+use Rattle.jcalling.proofs.JexecuteProofs.StepOutcomes.{fixed_then}
+use Rattle.jcalling.proofs.JexecuteProofs.QuickSteps.{last_closes, last_lives, last_machine, last_stands, none_closes}
 use Rattle.jcalling.proofs.jexecute.hastening.hasten.Goals as goal
 
 pub returns-in-None-clause-tries : goal.returns-in-None-clause-tries

@@ -1,9 +1,9 @@
 use Rattle.std.specs.Prelude.{length}
-use Rattle.jcalling.specs.jexecute.Hastening.{program_of}
-use Rattle.jcalling.proofs.JexecuteProofs.Hastened.{quick_stands, ref_hastens, ref_stands, row_hastens}
-use Rattle.jcalling.proofs.JexecuteProofs.Referred.{fetched_exact, fetched_here}
-use Rattle.jstepping.specs.jrefs.References as refs
-use Rattle.jstepping.specs.jstep.Rows as rows
+use Rattle.jcalling.specs.jexecute.FastSteps.{program_of}
+use Rattle.jcalling.proofs.JexecuteProofs.QuickSteps.{quick_stands, ref_hastens, ref_stands, row_hastens}
+use Rattle.jcalling.proofs.JexecuteProofs.ReferenceSteps.{fetched_exact, fetched_here}
+use Rattle.jstepping.specs.jrefs.ReferenceRows as refs
+use Rattle.jstepping.specs.jstep.InstructionRows as rows
 use Rattle.jcalling.proofs.jexecute.hastening.hasten_at.Goals as goal
 
 -- a row with numbers, a local, or the newest items of the stack

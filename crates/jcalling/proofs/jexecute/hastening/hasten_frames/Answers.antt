@@ -1,8 +1,8 @@
 use Rattle.std.proofs.Common.{◌∙◌, ◌+◌, ◌-◌, arith, refl, subst, sym}
-use Rattle.jprogram.specs.Classes.{Program}
-use Rattle.jstepping.specs.jstep.Stepping.{IsFixed}
-use Rattle.jcalling.proofs.JexecuteProofs.Hastened.{built_there, came_made, celled_there, few_there, fixed_itself, left_made, method_there, more_quiet, none_quiet, quiet_there, stand_there, stuck_so, within_so}
-use Rattle.jcalling.specs.jexecute.Hastening.{Turns}
+use Rattle.jresolution.specs.jprogram.ProgramClasses.{Program}
+use Rattle.jstepping.specs.jstep.StepRelation.{IsFixed}
+use Rattle.jcalling.proofs.JexecuteProofs.QuickSteps.{built_there, came_made, celled_there, few_there, fixed_itself, left_made, method_there, more_quiet, none_quiet, quiet_there, stand_there, stuck_so, within_so}
+use Rattle.jcalling.specs.jexecute.FastSteps.{Turns}
 use Rattle.jcalling.specs.declared.jexecute.hastening.Turned.TheVariants as turns
 use Rattle.jcalling.proofs.jexecute.hastening.hasten_frames.Goals as goal
 

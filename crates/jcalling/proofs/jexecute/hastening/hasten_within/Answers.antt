@@ -1,7 +1,7 @@
 use Rattle.std.proofs.Common.{◌∙◌, arith, refl, sym}
-use Rattle.jcalling.proofs.JexecuteProofs.Fetched.{fetches_some}
-use Rattle.jcalling.proofs.JexecuteProofs.Hastened.{more_quiet, none_quiet}
-use Rattle.jcalling.specs.jexecute.Hastening.{Hastens, program_of}
+use Rattle.jcalling.proofs.JexecuteProofs.InstructionFetch.{fetches_some}
+use Rattle.jcalling.proofs.JexecuteProofs.QuickSteps.{more_quiet, none_quiet}
+use Rattle.jcalling.specs.jexecute.FastSteps.{Hastens, program_of}
 use Rattle.jcalling.specs.declared.jexecute.hastening.Quick.TheVariants as tries
 use Rattle.jcalling.proofs.jexecute.hastening.hasten_within.Goals as goal
 

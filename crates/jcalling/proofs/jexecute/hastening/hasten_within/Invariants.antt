@@ -1,8 +1,8 @@
 use Rattle.std.proofs.Common.{◌≡◌, ◌≤◌, ◌-◌, length}
-use Rattle.jrows.specs.jcalls.Marks.{AreStanding}
-use Rattle.jmodel.specs.jstate.Celled.{AreCelled}
-use Rattle.jmodel.specs.jstate.Seen.{AreBuilt}
-use Rattle.jcalling.specs.jexecute.Hastening.{Quietly, program_of}
+use Rattle.jrows.specs.jcalls.FrameMarks.{AreStanding}
+use Rattle.jruntime.specs.jstate.ObjectCells.{AreCelled}
+use Rattle.jruntime.specs.jstate.HeapMeanings.{AreBuilt}
+use Rattle.jcalling.specs.jexecute.FastSteps.{Quietly, program_of}
 use Rattle.jcalling.proofs.jexecute.hastening.hasten_within.Given as goal
 
 abbrev pub invariant-loop-steps : goal.invariant-loop-steps

@@ -1,5 +1,5 @@
-use Rattle.jcalling.proofs.JexecuteProofs.Hastened.{all_begin, all_fixed, none_begun}
-use Rattle.jcalling.proofs.JexecuteProofs.Referred.{lasting}
+use Rattle.jcalling.proofs.JexecuteProofs.QuickSteps.{all_begin, all_fixed, none_begun}
+use Rattle.jcalling.proofs.JexecuteProofs.ReferenceSteps.{lasting}
 use Rattle.jcalling.proofs.jexecute.hastening.hurry.Goals as goal
 
 pub hasten_frames-requires-clause-lasting : goal.hasten_frames-requires-clause-lasting

@@ -1,7 +1,7 @@
 use Rattle.std.proofs.Common.{length}
-use Rattle.jcalling.proofs.JexecuteProofs.Fetched.{fetches_some}
-use Rattle.jcalling.proofs.JexecuteProofs.Hastened.{all_turn, turn_stands}
-use Rattle.jcalling.specs.jexecute.Advancing.{Fetches}
+use Rattle.jcalling.proofs.JexecuteProofs.InstructionFetch.{fetches_some}
+use Rattle.jcalling.proofs.JexecuteProofs.QuickSteps.{all_turn, turn_stands}
+use Rattle.jcalling.specs.jexecute.FrameSteps.{Fetches}
 use Rattle.jcalling.proofs.jexecute.hastening.turn.Goals as goal
 
 pub step-requires-clause-here : goal.step-requires-clause-here

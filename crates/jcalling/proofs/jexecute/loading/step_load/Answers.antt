@@ -1,6 +1,6 @@
 use Rattle.std.proofs.Common.{refl}
 use Rattle.std.specs.Prelude.{length}
-use Rattle.jcalling.proofs.JexecuteProofs.Loaded.{loaded_alike, loaded_row, loaded_stands}
+use Rattle.jcalling.proofs.JexecuteProofs.ConstantLoads.{loaded_alike, loaded_row, loaded_stands}
 use Rattle.jcalling.proofs.jexecute.loading.step_load.Goals as goal
 
 pub load-requires-clause-place : goal.load-requires-clause-place

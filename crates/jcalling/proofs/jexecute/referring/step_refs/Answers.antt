@@ -1,6 +1,6 @@
 use Rattle.std.specs.Prelude.{length}
-use Rattle.jcalling.proofs.JexecuteProofs.Advanced.{ok_celled}
-use Rattle.jcalling.proofs.JexecuteProofs.Referred.{fetched_exact, fetched_here, ok_refs_advance, ok_refs_alike, row_may_raise, row_stands}
+use Rattle.jcalling.proofs.JexecuteProofs.FrameSteps.{ok_celled}
+use Rattle.jcalling.proofs.JexecuteProofs.ReferenceSteps.{fetched_exact, fetched_here, ok_refs_advance, ok_refs_alike, row_may_raise, row_stands}
 use Rattle.jcalling.proofs.jexecute.referring.step_refs.Goals as goal
 
 pub run-requires-clause-place : goal.run-requires-clause-place

@@ -1,6 +1,6 @@
 use Rattle.std.proofs.Common.{subst}
-use Rattle.jtyping.specs.Typing.{WellTyped}
-use Rattle.jtyping.proofs.Methods.{well_typed_exactly}
+use Rattle.jtyping.specs.jwelltyped.VerifierTests.{WellTyped}
+use Rattle.jtyping.proofs.JwelltypedProofs.Methods.{well_typed_exactly}
 use Rattle.jcheck.proofs.checked.CheckedProgram.linked.Goals as goal
 
 pub returns-clause-typed : goal.returns-clause-typed

@@ -1,5 +1,5 @@
 use Rattle.std.proofs.Common.{◌≡◌, drop}
-use Rattle.jrights.specs.jdomain.Domains.{has}
+use Rattle.jdomain.specs.Domains.{has}
 use Rattle.jctx.specs.Contexts.{verdict}
 use Rattle.jctx.proofs.context.Context.first_failing.Given as goal
 

@@ -1,5 +1,5 @@
 use Rattle.std.proofs.Common.{◌≡◌, drop}
-use Rattle.jctx.specs.Limits.{add_limits}
+use Rattle.jctx.specs.PrivilegeLimits.{add_limits}
 use Rattle.jctx.proofs.limits.Limits.add.Given as goal
 
 -- adding what is left gives what adding all gives

@@ -1,13 +1,13 @@
 use Rattle.std.proofs.Common.{◌≡◌, List, ap, subst}
 use Rattle.std.specs.Prelude.{IfOk}
 use Rattle.jperm.specs.declared.permission.Permission.{Permission}
-use Rattle.jprogram.specs.Classes.{Program}
-use Rattle.jrights.specs.jdomain.Domains.{has}
-use Rattle.jmodel.specs.jmachine.Machine.{run}
-use Rattle.jmodel.specs.jrules.Inspecting.{rules as inspecting}
-use Rattle.jforms.specs.jinspect.Inspects.{Inspects}
-use Rattle.jforms.specs.jwhole.Tallied.{tally_of}
-use Rattle.jforms.proofs.JinspectProofs.Sided.{same_side}
+use Rattle.jresolution.specs.jprogram.ProgramClasses.{Program}
+use Rattle.jdomain.specs.Domains.{has}
+use Rattle.jsemantics.specs.jmachine.Machine.{run}
+use Rattle.jsemantics.specs.jrules.InspectingRules.{rules as inspecting}
+use Rattle.jforms.specs.jinspect.InspectingGuards.{Inspects}
+use Rattle.jforms.specs.jengine.RunTallies.{tally_of}
+use Rattle.jforms.proofs.JinspectProofs.InspectingSide.{same_side}
 use Rattle.jforms.proofs.jinspect.counting.count_inspect.Goals as goal
 
 pub count-requires-clause-typed : goal.count-requires-clause-typed

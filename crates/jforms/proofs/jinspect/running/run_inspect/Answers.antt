@@ -1,15 +1,15 @@
 use Rattle.std.proofs.Common.{List, OnErr, ap, subst}
-use Rattle.jground.specs.jbase.Causes.{IsCut}
+use Rattle.jground.specs.jbase.FaultCauses.{IsCut}
 use Rattle.jground.proofs.JbaseProofs.Cuts.{cut_none}
 use Rattle.jperm.specs.declared.permission.Permission.{Permission}
-use Rattle.jprogram.specs.Classes.{Program}
-use Rattle.jrights.specs.jdomain.Domains.{has}
-use Rattle.jmodel.specs.jmachine.Machine.{run as run_of}
-use Rattle.jmodel.specs.jmachine.Runs.{run_text}
-use Rattle.jmodel.specs.jrules.Inspecting.{rules as inspecting}
-use Rattle.jforms.specs.jinspect.Inspects.{Inspects}
-use Rattle.jforms.proofs.JinspectProofs.Sided.{same_side}
-use Rattle.jforms.proofs.JwholeProofs.Opened.{at_err}
+use Rattle.jresolution.specs.jprogram.ProgramClasses.{Program}
+use Rattle.jdomain.specs.Domains.{has}
+use Rattle.jsemantics.specs.jmachine.Machine.{run as run_of}
+use Rattle.jsemantics.specs.jmachine.RunTraces.{run_text}
+use Rattle.jsemantics.specs.jrules.InspectingRules.{rules as inspecting}
+use Rattle.jforms.specs.jinspect.InspectingGuards.{Inspects}
+use Rattle.jforms.proofs.JinspectProofs.InspectingSide.{same_side}
+use Rattle.jforms.proofs.JengineProofs.InitialMachines.{at_err}
 use Rattle.jforms.proofs.jinspect.running.run_inspect.Goals as goal
 
 pub run-requires-clause-typed : goal.run-requires-clause-typed

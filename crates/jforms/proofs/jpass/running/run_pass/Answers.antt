@@ -1,11 +1,11 @@
 use Rattle.std.proofs.Common.{subst}
-use Rattle.jrights.specs.jdomain.Domains.{has}
-use Rattle.jprogram.specs.Classes.{Program}
-use Rattle.jsafety.specs.jsafe.Sound.{IsSound}
-use Rattle.jmovedlaws.specs.jsmall.Small.{HasSmall}
-use Rattle.jforms.specs.jpass.Passing.{passed}
-use Rattle.jforms.proofs.JpassProofs.Tellings.{complete, simulated, tells}
-use Rattle.jforms.proofs.JpassProofs.Unstuck.{inspected_unstuck, passed_unstuck}
+use Rattle.jdomain.specs.Domains.{has}
+use Rattle.jresolution.specs.jprogram.ProgramClasses.{Program}
+use Rattle.jsoundness_laws.specs.progress.SoundPrograms.{IsSound}
+use Rattle.jmoved_laws.specs.contexts.SmallContexts.{HasSmall}
+use Rattle.jpass_laws.specs.PassSimulation.{passed}
+use Rattle.jforms.proofs.JpassProofs.EventTransfer.{complete, simulated, tells}
+use Rattle.jpass_laws.proofs.RunProgress.{inspected_unstuck, passed_unstuck}
 use Rattle.jforms.proofs.jpass.running.run_pass.Goals as goal
 
 pub is_sound-requires : goal.is_sound-requires

@@ -1,12 +1,12 @@
 use Rattle.std.proofs.Common.{◌≡◌, List, subst}
 use Rattle.std.specs.Prelude.{IfOk}
 use Rattle.jperm.specs.declared.permission.Permission.{Permission}
-use Rattle.jprogram.specs.Classes.{Program}
-use Rattle.jrights.specs.jdomain.Domains.{has}
-use Rattle.jmodel.specs.jmachine.Machine.{run}
-use Rattle.jmodel.specs.jrules.Plain.{rules as plain}
-use Rattle.jforms.specs.jwhole.Tallied.{tally_of}
-use Rattle.jforms.proofs.JplainProofs.Sided.{same_side}
+use Rattle.jresolution.specs.jprogram.ProgramClasses.{Program}
+use Rattle.jdomain.specs.Domains.{has}
+use Rattle.jsemantics.specs.jmachine.Machine.{run}
+use Rattle.jsemantics.specs.jrules.PlainRules.{rules as plain}
+use Rattle.jforms.specs.jengine.RunTallies.{tally_of}
+use Rattle.jforms.proofs.JplainProofs.PassingSide.{same_side}
 use Rattle.jforms.proofs.jplain.counting.count_plain.Goals as goal
 
 pub count-requires-clause-typed : goal.count-requires-clause-typed

@@ -1,7 +1,7 @@
 use Rattle.std.proofs.Common.{◌<◌, length, arith}
 use Rattle.std.proofs.lemmas.Result.{err_from_is_err_and}
-use Rattle.jground.specs.jformat.Bodies.{many_at}
-use Rattle.jground.proofs.JformatProofs.Turns.{many_begin, many_more, many_fail, many_done, many_over, is_none, is_some}
+use Rattle.jground.specs.jformat.BodyFormats.{many_at}
+use Rattle.jground.proofs.JformatProofs.ReadingLoops.{many_begin, many_more, many_fail, many_done, many_over, is_none, is_some}
 use Rattle.jground.proofs.jformat.loops.many_of.Goals as goal
 
 pub loop-init : goal.loop-init

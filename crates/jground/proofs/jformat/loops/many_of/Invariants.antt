@@ -1,7 +1,7 @@
 use Rattle.std.proofs.Common.{◌≡◌, ◌-◌, length}
-use Rattle.jground.specs.jformat.Bodies.{many_at}
-use Rattle.jground.specs.jformat.States.{many_from}
-use Rattle.jground.proofs.JformatProofs.Turns.{with_list}
+use Rattle.jground.specs.jformat.BodyFormats.{many_at}
+use Rattle.jground.specs.jformat.StatefulFormats.{many_from}
+use Rattle.jground.proofs.JformatProofs.ReadingLoops.{with_list}
 use Rattle.jground.proofs.jformat.loops.many_of.Given as goal
 
 abbrev pub invariant-loop : goal.invariant-loop

@@ -1,7 +1,7 @@
 use Rattle.std.proofs.Common.{◌≡◌, ◌-◌}
-use Rattle.jground.specs.jformat.Bodies.{times_at}
-use Rattle.jground.specs.jformat.States.{times_from}
-use Rattle.jground.proofs.JformatProofs.Turns.{with_front}
+use Rattle.jground.specs.jformat.BodyFormats.{times_at}
+use Rattle.jground.specs.jformat.StatefulFormats.{times_from}
+use Rattle.jground.proofs.JformatProofs.ReadingLoops.{with_front}
 use Rattle.jground.proofs.jformat.loops.times_of.Given as goal
 
 abbrev pub invariant-loop : goal.invariant-loop

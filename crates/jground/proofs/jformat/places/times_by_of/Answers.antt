@@ -1,7 +1,7 @@
 use Rattle.std.proofs.Common.{arith}
 use Rattle.std.proofs.lemmas.Result.{err_from_is_err_and}
-use Rattle.jground.specs.jformat.States.{times_from}
-use Rattle.jground.proofs.JformatProofs.Turns.{times_by_begin, times_more, times_fail, times_end}
+use Rattle.jground.specs.jformat.StatefulFormats.{times_from}
+use Rattle.jground.proofs.JformatProofs.ReadingLoops.{times_by_begin, times_more, times_fail, times_end}
 use Rattle.jground.proofs.jformat.places.times_by_of.Goals as goal
 
 pub loop-init : goal.loop-init

@@ -1,6 +1,6 @@
 use Rattle.std.proofs.Common.{◌≡◌, ◌-◌}
-use Rattle.jground.specs.jformat.States.{times_from}
-use Rattle.jground.proofs.JformatProofs.Turns.{with_front}
+use Rattle.jground.specs.jformat.StatefulFormats.{times_from}
+use Rattle.jground.proofs.JformatProofs.ReadingLoops.{with_front}
 use Rattle.jground.proofs.jformat.places.times_by_of.Given as goal
 
 abbrev pub invariant-loop : goal.invariant-loop

@@ -1,5 +1,5 @@
 use Rattle.std.proofs.Common.{arith}
-use Rattle.jground.proofs.JformatProofs.Turns.{spell_next, spell_end, fits_here}
+use Rattle.jground.proofs.JformatProofs.ReadingLoops.{spell_next, spell_end, fits_here}
 use Rattle.jground.proofs.jformat.write.put_by.Goals as goal
 
 pub write-requires : goal.write-requires

@@ -1,6 +1,6 @@
 use Rattle.std.proofs.Common.{◌≡◌, ◌++◌, drop}
 use Rattle.std.specs.Prelude.{IsTrue}
-use Rattle.jground.specs.jformat.States.{spell_from, fits_from}
+use Rattle.jground.specs.jformat.StatefulFormats.{spell_from, fits_from}
 use Rattle.jground.proofs.jformat.write.put_by.Given as goal
 
 abbrev pub invariant-loop-item : goal.invariant-loop-item

@@ -1,6 +1,6 @@
 use Rattle.std.proofs.Common.{sym, ◌∙◌, arith}
 use Rattle.jground.specs.jtext.Modified.{text}
-use Rattle.jground.proofs.JformatProofs.Placing.{fails_at}
+use Rattle.jground.proofs.JformatProofs.FaultOffsets.{fails_at}
 use Rattle.jground.proofs.JtextProofs.Groups.{text_law, read_is, read_spelled}
 use Rattle.jground.proofs.jtext.modified.units_of.Goals as goal
 

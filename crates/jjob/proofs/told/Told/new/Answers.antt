@@ -1,4 +1,4 @@
-use Rattle.jjob.proofs.JobTold.{nothing_told}
+use Rattle.jjob.proofs.JobPrefixes.{nothing_told}
 use Rattle.jjob.proofs.told.Told.new.Goals as goal
 
 pub returns : goal.returns

@@ -1,4 +1,4 @@
-use Rattle.jlib.specs.Classes.{height}
+use Rattle.jlib.specs.LibraryClasses.{height}
 use Rattle.jlib.proofs.classes.LibClass.+has_fixed.Given as goal
 
 -- the chain above the class grows shorter

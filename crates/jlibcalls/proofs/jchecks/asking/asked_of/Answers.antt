@@ -1,8 +1,8 @@
 use Rattle.std.proofs.Common.{◌≡◌, Some, rules}
-use Rattle.jheap.specs.Heaps as heaps
-use Rattle.jmodel.specs.jstate.Seen.{place_in}
-use Rattle.jlibcalls.specs.jchecks.Asks.{number_held}
-use Rattle.jlibcalls.proofs.JchecksProofs.Holding.{asks_one}
+use Rattle.jmemory.specs.jheap.Heaps as heaps
+use Rattle.jruntime.specs.jstate.HeapMeanings.{place_in}
+use Rattle.jlibcalls.specs.jchecks.PermissionQueries.{number_held}
+use Rattle.jlibcalls.proofs.JchecksProofs.CheckRequests.{asks_one}
 use Rattle.jlibcalls.proofs.jchecks.asking.asked_of.Goals as goal
 
 pub returns-in-Some : goal.returns-in-Some

@@ -1,8 +1,8 @@
 use Rattle.std.proofs.Common.{◌≡◌, ◌∙◌, ℕ, List, subst}
 use Rattle.jlib.specs.declared.classes.LibClass.TheVariants as lib
-use Rattle.jmodel.specs.jmachine.Security.{denial_message}
-use Rattle.jrows.specs.jcalls.Telling.{TellsHeap}
-use Rattle.jlibcalls.proofs.JchecksProofs.Deciding.{denied_so, denied_stands}
+use Rattle.jsemantics.specs.jmachine.Security.{denial_message}
+use Rattle.jrows.specs.jcalls.MessageThrows.{TellsHeap}
+use Rattle.jlibcalls.proofs.JchecksProofs.CheckOutcomes.{denied_so, denied_stands}
 use Rattle.jlibcalls.proofs.jchecks.judging.deny.Goals as goal
 
 pub returns-clause-row : goal.returns-clause-row

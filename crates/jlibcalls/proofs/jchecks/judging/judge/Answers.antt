@@ -1,7 +1,7 @@
 use Rattle.std.proofs.Common.{sym, subst}
-use Rattle.jlibcalls.specs.jchecks.Judges.{Judges}
+use Rattle.jlibcalls.specs.jchecks.PermissionVerdicts.{Judges}
 use Rattle.jlibcalls.specs.declared.jchecks.judging.Judged.TheVariants as ways
-use Rattle.jlibcalls.proofs.JchecksProofs.Deciding.{granted_so}
+use Rattle.jlibcalls.proofs.JchecksProofs.CheckOutcomes.{granted_so}
 use Rattle.jlibcalls.proofs.jchecks.judging.judge.Goals as goal
 
 pub returns-in-Granted-clause-row : goal.returns-in-Granted-clause-row

@@ -1,4 +1,4 @@
-use Rattle.jlibcalls.specs.jconstants.Made.{AreNone}
+use Rattle.jlibcalls.specs.jconstants.StringConstants.{AreNone}
 use Rattle.jlibcalls.proofs.jconstants.known.rows_of.Given as goal
 
 abbrev pub invariant-loop-part : goal.invariant-loop-part

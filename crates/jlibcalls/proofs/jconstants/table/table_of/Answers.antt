@@ -1,5 +1,5 @@
 use Rattle.std.proofs.Common.{rules}
-use Rattle.jlibcalls.proofs.JconstantsProofs.Numbers.{none_known}
+use Rattle.jlibcalls.proofs.JconstantsProofs.UnnumberedRows.{none_known}
 use Rattle.jlibcalls.proofs.JconstantsProofs.Tables.{none_made}
 use Rattle.jlibcalls.proofs.jconstants.table.table_of.Goals as goal
 

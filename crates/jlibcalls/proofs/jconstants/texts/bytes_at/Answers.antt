@@ -1,6 +1,6 @@
 use Rattle.std.proofs.Common.{◌≡◌, Some, None, rules}
 use Rattle.std.specs.Prelude.{slice_get}
-use Rattle.jlibcalls.proofs.JconstantsProofs.Nowhere.{text_nowhere}
+use Rattle.jlibcalls.proofs.JconstantsProofs.PoolTexts.{text_nowhere}
 use Rattle.jlibcalls.proofs.jconstants.texts.bytes_at.Goals as goal
 
 pub returns-in-None : goal.returns-in-None

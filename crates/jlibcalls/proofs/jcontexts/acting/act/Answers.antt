@@ -1,4 +1,4 @@
-use Rattle.jlibcalls.proofs.JcontextsProofs.Calling.{without_code}
+use Rattle.jlibcalls.proofs.JcontextsProofs.ActionCalls.{without_code}
 use Rattle.jlibcalls.proofs.jcontexts.acting.act.Goals as goal
 
 pub returns-then-not-callee-clause-row : goal.returns-then-not-callee-clause-row

@@ -1,6 +1,6 @@
 use Rattle.std.proofs.Common.{Some, None, arith, refl, subst}
-use Rattle.jlibcalls.specs.jcontexts.Limits.{LimitIs}
-use Rattle.jlibcalls.proofs.JcontextsProofs.Limiting.{at_last, found_none, found_null, found_one}
+use Rattle.jlibcalls.specs.jcontexts.LimitPermissions.{LimitIs}
+use Rattle.jlibcalls.proofs.JcontextsProofs.PrivilegeLimits.{at_last, found_none, found_null, found_one}
 use Rattle.jlibcalls.proofs.jcontexts.arrays.all_limits.Goals as goal
 
 pub returns-in-Stuck : goal.returns-in-Stuck

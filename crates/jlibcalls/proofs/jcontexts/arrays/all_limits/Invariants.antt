@@ -1,5 +1,5 @@
-use Rattle.jheap.specs.Heaps.{cells_at}
-use Rattle.jlibcalls.specs.jcontexts.Limits.{AreLeft}
+use Rattle.jmemory.specs.jheap.Heaps.{cells_at}
+use Rattle.jlibcalls.specs.jcontexts.LimitPermissions.{AreLeft}
 use Rattle.jlibcalls.proofs.jcontexts.arrays.all_limits.Given as goal
 
 abbrev pub invariant-loop-i : goal.invariant-loop-i

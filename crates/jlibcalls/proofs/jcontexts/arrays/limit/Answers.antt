@@ -1,7 +1,7 @@
 use Rattle.std.proofs.Common.{◌∙◌, Some, ap, subst, sym}
-use Rattle.jmodel.specs.jstate.Seen.{place_in}
-use Rattle.jlibcalls.specs.jcontexts.Limits.{LimitIs}
-use Rattle.jlibcalls.proofs.JcontextsProofs.Limiting.{one_limits}
+use Rattle.jruntime.specs.jstate.HeapMeanings.{place_in}
+use Rattle.jlibcalls.specs.jcontexts.LimitPermissions.{LimitIs}
+use Rattle.jlibcalls.proofs.JcontextsProofs.PrivilegeLimits.{one_limits}
 use Rattle.jlibcalls.proofs.jcontexts.arrays.limit.Goals as goal
 
 pub returns-in-Some : goal.returns-in-Some

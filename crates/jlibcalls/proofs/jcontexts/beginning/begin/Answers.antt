@@ -1,6 +1,6 @@
 use Rattle.std.specs.Prelude.{option_map, option_to_list}
-use Rattle.jground.specs.declared.jops.value.Value.TheVariants as values
-use Rattle.jlibcalls.proofs.JcontextsProofs.Starting.{begins_so}
+use Rattle.jvalues.specs.declared.jops.value.Value.TheVariants as values
+use Rattle.jlibcalls.proofs.JcontextsProofs.ThreadEntries.{begins_so}
 use Rattle.jlibcalls.proofs.jcontexts.beginning.begin.Goals as goal
 
 pub returns-clause-row : goal.returns-clause-row

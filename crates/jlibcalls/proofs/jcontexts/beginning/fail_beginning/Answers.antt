@@ -1,4 +1,4 @@
-use Rattle.jlibcalls.proofs.JcontextsProofs.Starting.{made_celled, made_kept}
+use Rattle.jlibcalls.proofs.JcontextsProofs.ThreadEntries.{made_celled, made_kept}
 use Rattle.jlibcalls.proofs.jcontexts.beginning.fail_beginning.Goals as goal
 
 pub returns-clause-celled : goal.returns-clause-celled

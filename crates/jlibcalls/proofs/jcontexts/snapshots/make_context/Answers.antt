@@ -1,4 +1,4 @@
-use Rattle.jlibcalls.proofs.JcontextsProofs.Making.{context_built, makes_context, one_made}
+use Rattle.jlibcalls.proofs.JcontextsProofs.ContextCreation.{context_built, makes_context, one_made}
 use Rattle.jlibcalls.proofs.jcontexts.snapshots.make_context.Goals as goal
 
 pub returns-clause-made : goal.returns-clause-made

@@ -1,5 +1,5 @@
 use Rattle.std.proofs.Common.{arith}
-use Rattle.jlibcalls.proofs.JcontextsProofs.Snapping.{same_held, snaps, snaps_full, snaps_held}
+use Rattle.jlibcalls.proofs.JcontextsProofs.SnapshotOutcomes.{same_held, snaps, snaps_full, snaps_held}
 use Rattle.jlibcalls.proofs.jcontexts.snapshots.snapshot.Goals as goal
 
 pub returns-then-left-lt2-clause-row : goal.returns-then-left-lt2-clause-row

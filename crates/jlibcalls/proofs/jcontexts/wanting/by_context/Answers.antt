@@ -1,4 +1,4 @@
-use Rattle.jlibcalls.proofs.JcontextsProofs.Finding.{some_context}
+use Rattle.jlibcalls.proofs.JcontextsProofs.PrivilegedCalls.{some_context}
 use Rattle.jlibcalls.proofs.jcontexts.wanting.by_context.Goals as goal
 
 pub returns-in-Some : goal.returns-in-Some

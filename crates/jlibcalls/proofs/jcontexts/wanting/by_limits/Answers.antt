@@ -1,5 +1,5 @@
 use Rattle.std.proofs.Common.{◌∙◌, Some, ap}
-use Rattle.jlibcalls.proofs.JcontextsProofs.Finding.{limits_at}
+use Rattle.jlibcalls.proofs.JcontextsProofs.PrivilegedCalls.{limits_at}
 use Rattle.jlibcalls.proofs.jcontexts.wanting.by_limits.Goals as goal
 
 pub returns-in-Some-Some : goal.returns-in-Some-Some

@@ -1,4 +1,4 @@
-use Rattle.jlibcalls.proofs.JcontextsProofs.Finding.{limited_wants, within_wants}
+use Rattle.jlibcalls.proofs.JcontextsProofs.PrivilegedCalls.{limited_wants, within_wants}
 use Rattle.jlibcalls.proofs.jcontexts.wanting.by_request.Goals as goal
 
 pub returns-in-Context : goal.returns-in-Context

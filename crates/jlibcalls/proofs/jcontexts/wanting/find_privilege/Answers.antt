@@ -1,5 +1,5 @@
 use Rattle.std.proofs.Common.{take}
-use Rattle.jlibcalls.proofs.JcontextsProofs.Finding.{found_so}
+use Rattle.jlibcalls.proofs.JcontextsProofs.PrivilegedCalls.{found_so}
 use Rattle.jlibcalls.proofs.jcontexts.wanting.find_privilege.Goals as goal
 
 pub returns-in-Some : goal.returns-in-Some

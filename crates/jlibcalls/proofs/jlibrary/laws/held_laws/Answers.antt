@@ -1,5 +1,5 @@
-use Rattle.jlibcalls.proofs.JlibraryProofs.Lasting.{made_stays, rows_stay}
-use Rattle.jlibcalls.proofs.JlibraryProofs.Numbering.{by_number, within}
+use Rattle.jlibcalls.proofs.JlibraryProofs.PermissionlessRows.{made_stays, rows_stay}
+use Rattle.jlibcalls.proofs.JlibraryProofs.PermissionNumbers.{by_number, within}
 use Rattle.jlibcalls.proofs.jlibrary.laws.held_laws.Goals as goal
 
 pub returns-clause-rows : goal.returns-clause-rows

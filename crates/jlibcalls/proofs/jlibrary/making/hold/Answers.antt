@@ -1,6 +1,6 @@
 use Rattle.std.proofs.Common.{◌≡◌, ◌+◌, true, false, length, rules}
-use Rattle.jlibcalls.specs.jlibrary.Held.{is_permission}
-use Rattle.jlibcalls.proofs.JlibraryProofs.Holding.{none_held, one_held, stay_held}
+use Rattle.jlibcalls.specs.jlibrary.HeldPermissions.{is_permission}
+use Rattle.jlibcalls.proofs.JlibraryProofs.PermissionHolders.{none_held, one_held, stay_held}
 use Rattle.jlibcalls.proofs.jlibrary.making.hold.Goals as goal
 
 pub returns-then-not-is_permission-clause-row : goal.returns-then-not-is_permission-clause-row

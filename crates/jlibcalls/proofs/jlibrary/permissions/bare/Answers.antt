@@ -1,7 +1,7 @@
 use Rattle.std.specs.Prelude.{[], ◌∷◌}
-use Rattle.jmodel.specs.jmachine.Permissions.{bare, init, made_in}
-use Rattle.jmodel.specs.jstate.Seen.{store_by}
-use Rattle.jlibcalls.proofs.JlibraryProofs.Giving.{as_row, bare_row, no_object, stuck_row}
+use Rattle.jsemantics.specs.jmachine.PermissionCalls.{bare, init, made_in}
+use Rattle.jruntime.specs.jstate.HeapMeanings.{store_by}
+use Rattle.jlibcalls.proofs.JlibraryProofs.ConstructorArguments.{as_row, bare_row, no_object, stuck_row}
 use Rattle.jlibcalls.proofs.jlibrary.permissions.bare.Goals as goal
 
 pub returns-in-None-clause-row : goal.returns-in-None-clause-row

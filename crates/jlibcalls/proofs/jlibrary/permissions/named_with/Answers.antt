@@ -1,8 +1,8 @@
 use Rattle.std.proofs.Common.{◌∙◌}
 use Rattle.std.specs.Prelude.{[], ◌∷◌}
-use Rattle.jmodel.specs.jmachine.Permissions.{init, made_in}
-use Rattle.jmodel.specs.jstate.Seen.{store_by}
-use Rattle.jlibcalls.proofs.JlibraryProofs.Giving.{as_row, no_actions, no_name_with, no_object_with, stuck_row, with_row}
+use Rattle.jsemantics.specs.jmachine.PermissionCalls.{init, made_in}
+use Rattle.jruntime.specs.jstate.HeapMeanings.{store_by}
+use Rattle.jlibcalls.proofs.JlibraryProofs.ConstructorArguments.{as_row, no_actions, no_name_with, no_object_with, stuck_row, with_row}
 use Rattle.jlibcalls.proofs.jlibrary.permissions.named_with.Goals as goal
 
 pub returns-in_default-clause-row : goal.returns-in_default-clause-row

@@ -1,7 +1,7 @@
 use Rattle.std.proofs.Common.{◌∙◌, List, ℕ, Some, ap}
 use Rattle.std.specs.Prelude.{option_map}
-use Rattle.jmodel.specs.jstate.Seen.{store_by}
-use Rattle.jlibcalls.proofs.JlibraryProofs.Giving.{text_units}
+use Rattle.jruntime.specs.jstate.HeapMeanings.{store_by}
+use Rattle.jlibcalls.proofs.JlibraryProofs.ConstructorArguments.{text_units}
 use Rattle.jlibcalls.proofs.jlibrary.permissions.text.Goals as goal
 
 pub returns-in-None : goal.returns-in-None

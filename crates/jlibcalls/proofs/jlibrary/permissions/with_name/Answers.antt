@@ -1,8 +1,8 @@
 use Rattle.std.proofs.Common.{sym}
 use Rattle.std.specs.Prelude.{take}
-use Rattle.jmodel.specs.jmachine.Permissions.{init}
-use Rattle.jmodel.specs.jstate.Seen.{store_by}
-use Rattle.jlibcalls.proofs.JlibraryProofs.Giving.{not_given, stuck_row}
+use Rattle.jsemantics.specs.jmachine.PermissionCalls.{init}
+use Rattle.jruntime.specs.jstate.HeapMeanings.{store_by}
+use Rattle.jlibcalls.proofs.JlibraryProofs.ConstructorArguments.{not_given, stuck_row}
 use Rattle.jlibcalls.proofs.jlibrary.permissions.with_name.Goals as goal
 
 pub returns-in-None-three-clause-row : goal.returns-in-None-three-clause-row

@@ -2,7 +2,7 @@ use Rattle.std.specs.Prelude.{take}
 use Rattle.std.proofs.Common.{Some, refl}
 use Rattle.jlibcalls.proofs.JlibraryProofs.Operands.{one_is}
 use Rattle.jlibcalls.proofs.JlibraryProofs.Dispatch.{prints}
-use Rattle.jlibcalls.proofs.JlibraryProofs.Missing.{no_line}
+use Rattle.jlibcalls.proofs.JlibraryProofs.ArityMismatches.{no_line}
 use Rattle.jlibcalls.proofs.jlibrary.printing.print_nothing.Goals as goal
 
 pub returns-in-None : goal.returns-in-None

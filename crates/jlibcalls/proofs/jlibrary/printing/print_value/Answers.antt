@@ -1,7 +1,7 @@
 use Rattle.std.specs.Prelude.{take}
-use Rattle.jmodel.specs.jmachine.Texts.{print}
+use Rattle.jsemantics.specs.jmachine.TextCalls.{print}
 use Rattle.jlibcalls.proofs.JlibraryProofs.Dispatch.{none_does, print_does}
-use Rattle.jlibcalls.proofs.JlibraryProofs.Missing.{no_print}
+use Rattle.jlibcalls.proofs.JlibraryProofs.ArityMismatches.{no_print}
 use Rattle.jlibcalls.proofs.jlibrary.printing.print_value.Goals as goal
 
 pub returns-in-None : goal.returns-in-None

@@ -1,13 +1,13 @@
 use Rattle.std.specs.Prelude.{[], take}
 use Rattle.jlib.specs.declared.calls.LibCall.TheVariants as calls
 use Rattle.jlib.specs.declared.calls.ThrownInit.TheVariants as given
-use Rattle.jmodel.specs.ProofNames.{object_init}
-use Rattle.jmodel.specs.jmachine.Texts.{builder, print, print_end, string}
-use Rattle.jmodel.specs.jmachine.Throwables.{init, message}
-use Rattle.jmodel.specs.jstate.Seen.{store_by}
+use Rattle.jsemantics.specs.ProofNames.{object_init}
+use Rattle.jsemantics.specs.jmachine.TextCalls.{builder, print, print_end, string}
+use Rattle.jsemantics.specs.jmachine.Throwables.{init, message}
+use Rattle.jruntime.specs.jstate.HeapMeanings.{store_by}
 use Rattle.jlibcalls.proofs.JlibraryProofs.Calls.{if_call, is_builder, is_denial, is_line, is_message, is_object, is_print, is_string, is_thrown, no_call, permission_call, quiet_call}
-use Rattle.jlibcalls.proofs.JlibraryProofs.Holding.{has_holder}
-use Rattle.jlibcalls.proofs.JlibraryProofs.Keeping.{as_call, keeps}
+use Rattle.jlibcalls.proofs.JlibraryProofs.PermissionHolders.{has_holder}
+use Rattle.jlibcalls.proofs.JlibraryProofs.PermissionlessCalls.{as_call, keeps}
 use Rattle.jlibcalls.proofs.jlibrary.rows.row.Goals as goal
 
 pub permission_init-requires-clause-cell : goal.permission_init-requires-clause-cell

@@ -1,5 +1,5 @@
 use Rattle.std.proofs.Common.{refl}
-use Rattle.jlibcalls.proofs.JlibraryProofs.Ended.{runs, stays_so}
+use Rattle.jlibcalls.proofs.JlibraryProofs.CallFrameOutcomes.{runs, stays_so}
 use Rattle.jlibcalls.proofs.jlibrary.running.run.Goals as goal
 
 pub returns-clause-row : goal.returns-clause-row

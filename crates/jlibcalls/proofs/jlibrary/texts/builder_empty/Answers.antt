@@ -1,8 +1,8 @@
 use Rattle.std.specs.Prelude.{[], take}
 use Rattle.jlib.specs.declared.calls.BuilderCall.TheVariants as calls
-use Rattle.jmodel.specs.jmachine.Texts.{builder}
+use Rattle.jsemantics.specs.jmachine.TextCalls.{builder}
 use Rattle.jlibcalls.proofs.JlibraryProofs.Dispatch.{none_does, one_does}
-use Rattle.jlibcalls.proofs.JlibraryProofs.Missing.{no_builder}
+use Rattle.jlibcalls.proofs.JlibraryProofs.ArityMismatches.{no_builder}
 use Rattle.jlibcalls.proofs.jlibrary.texts.builder_empty.Goals as goal
 
 pub returns-in-None-clause-row : goal.returns-in-None-clause-row

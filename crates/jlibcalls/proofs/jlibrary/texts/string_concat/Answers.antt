@@ -1,8 +1,8 @@
 use Rattle.std.specs.Prelude.{take}
 use Rattle.jlib.specs.declared.calls.StringCall.TheVariants as calls
-use Rattle.jmodel.specs.jmachine.Texts.{string}
+use Rattle.jsemantics.specs.jmachine.TextCalls.{string}
 use Rattle.jlibcalls.proofs.JlibraryProofs.Dispatch.{none_does, two_did}
-use Rattle.jlibcalls.proofs.JlibraryProofs.Missing.{no_concat}
+use Rattle.jlibcalls.proofs.JlibraryProofs.ArityMismatches.{no_concat}
 use Rattle.jlibcalls.proofs.jlibrary.texts.string_concat.Goals as goal
 
 pub returns-in-None-clause-row : goal.returns-in-None-clause-row

@@ -1,8 +1,8 @@
 use Rattle.std.specs.Prelude.{[], take}
 use Rattle.jlib.specs.declared.calls.StringCall.TheVariants as calls
-use Rattle.jmodel.specs.jmachine.Texts.{string}
+use Rattle.jsemantics.specs.jmachine.TextCalls.{string}
 use Rattle.jlibcalls.proofs.JlibraryProofs.Dispatch.{none_does, two_does}
-use Rattle.jlibcalls.proofs.JlibraryProofs.Missing.{no_unit}
+use Rattle.jlibcalls.proofs.JlibraryProofs.ArityMismatches.{no_unit}
 use Rattle.jlibcalls.proofs.jlibrary.texts.string_unit.Goals as goal
 
 pub returns-in-None : goal.returns-in-None

@@ -1,5 +1,5 @@
 use Rattle.std.proofs.Common.{refl}
-use Rattle.jmodel.specs.jmachine.Texts.{string}
+use Rattle.jsemantics.specs.jmachine.TextCalls.{string}
 use Rattle.jlibcalls.proofs.jlibrary.texts.unit_at.Goals as goal
 
 pub returns-in-Long : goal.returns-in-Long

@@ -1,7 +1,7 @@
 use Rattle.std.specs.Prelude.{[], take}
-use Rattle.jmodel.specs.jmachine.Throwables.{message}
+use Rattle.jsemantics.specs.jmachine.Throwables.{message}
 use Rattle.jlibcalls.proofs.JlibraryProofs.Dispatch.{none_does, one_does}
-use Rattle.jlibcalls.proofs.JlibraryProofs.Missing.{no_message}
+use Rattle.jlibcalls.proofs.JlibraryProofs.ArityMismatches.{no_message}
 use Rattle.jlibcalls.proofs.jlibrary.thrown.get_message.Goals as goal
 
 pub returns-in-None : goal.returns-in-None

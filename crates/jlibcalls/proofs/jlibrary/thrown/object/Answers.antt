@@ -1,7 +1,7 @@
 use Rattle.std.proofs.Common.{refl}
 use Rattle.std.specs.Prelude.{take}
 use Rattle.jlibcalls.proofs.JlibraryProofs.Operands.{one_is}
-use Rattle.jlibcalls.proofs.JlibraryProofs.Missing.{no_object}
+use Rattle.jlibcalls.proofs.JlibraryProofs.ArityMismatches.{no_object}
 use Rattle.jlibcalls.proofs.jlibrary.thrown.object.Goals as goal
 
 pub returns-in-None : goal.returns-in-None

@@ -1,8 +1,8 @@
 use Rattle.std.specs.Prelude.{[], take}
 use Rattle.jlib.specs.declared.calls.ThrownInit.TheVariants as given
-use Rattle.jmodel.specs.jmachine.Throwables.{init}
+use Rattle.jsemantics.specs.jmachine.Throwables.{init}
 use Rattle.jlibcalls.proofs.JlibraryProofs.Dispatch.{none_does, two_does, two_receives}
-use Rattle.jlibcalls.proofs.JlibraryProofs.Missing.{no_told}
+use Rattle.jlibcalls.proofs.JlibraryProofs.ArityMismatches.{no_told}
 use Rattle.jlibcalls.proofs.jlibrary.thrown.told.Goals as goal
 
 pub returns-in-None-clause-row : goal.returns-in-None-clause-row

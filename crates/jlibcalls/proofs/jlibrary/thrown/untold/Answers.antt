@@ -1,8 +1,8 @@
 use Rattle.std.specs.Prelude.{[], take}
 use Rattle.jlib.specs.declared.calls.ThrownInit.TheVariants as given
-use Rattle.jmodel.specs.jmachine.Throwables.{init}
+use Rattle.jsemantics.specs.jmachine.Throwables.{init}
 use Rattle.jlibcalls.proofs.JlibraryProofs.Dispatch.{none_does, one_does, one_receives}
-use Rattle.jlibcalls.proofs.JlibraryProofs.Missing.{no_untold}
+use Rattle.jlibcalls.proofs.JlibraryProofs.ArityMismatches.{no_untold}
 use Rattle.jlibcalls.proofs.jlibrary.thrown.untold.Goals as goal
 
 pub returns-in-None-clause-row : goal.returns-in-None-clause-row

@@ -1,4 +1,4 @@
-use Rattle.jlibcalls.proofs.JthreadingProofs.Asking.{init_asks, init_asks_nothing, init_stuck, others_ask_nothing}
+use Rattle.jlibcalls.proofs.JthreadingProofs.ThreadRequests.{init_asks, init_asks_nothing, init_stuck, others_ask_nothing}
 use Rattle.jlibcalls.proofs.jthreading.laws.init_laws.Goals as goal
 
 pub returns-clause-asks : goal.returns-clause-asks

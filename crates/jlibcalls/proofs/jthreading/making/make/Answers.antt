@@ -1,19 +1,19 @@
 use Rattle.std.proofs.Common.{◌≡◌, ◌∙◌, ◌+◌, ℕ, [], suc, Option, Some, length, sym, ap, arith}
 use Rattle.std.specs.Prelude.{option_map}
-use Rattle.jheap.specs.Heaps as heaps
-use Rattle.jmodel.specs.jmachine.Acts.{State, Went}
-use Rattle.jmodel.specs.jmachine.Objects.{Thread}
-use Rattle.jmodel.specs.jmachine.Store.{with_object}
-use Rattle.jmodel.specs.jmachine.Steps.{entries, guest, site}
-use Rattle.jmodel.specs.jmachine.Turns.{with_guest}
-use Rattle.jmodel.specs.jstate.Framed.{Framed, all}
-use Rattle.jmodel.specs.jstate.Seen.{first, number_in, store_by}
-use Rattle.jmodel.specs.declared.jguests.guests.Guests.{Guests}
-use Rattle.jmodel.specs.jguests.Guested.{state_by, with_frames}
-use Rattle.jlibcalls.specs.jthreading.Switching.{gone}
-use Rattle.jlibcalls.proofs.JthreadingProofs.Lasting.{are_behind, behind_lives, more_frames, turned_stay}
-use Rattle.jlibcalls.proofs.JthreadingProofs.Made.{has_cell, held_there, makes_row, makes_so, one_more_state, some_cells, thread_there, written, written_alike}
-use Rattle.jlibcalls.proofs.JthreadingProofs.Rows.{framed_state}
+use Rattle.jmemory.specs.jheap.Heaps as heaps
+use Rattle.jsemantics.specs.jmachine.MachineStates.{State, Went}
+use Rattle.jsemantics.specs.jmachine.HeapObjects.{Thread}
+use Rattle.jsemantics.specs.jmachine.Store.{with_object}
+use Rattle.jsemantics.specs.jmachine.MachineSteps.{entries, guest, site}
+use Rattle.jsemantics.specs.jmachine.ThreadTurns.{with_guest}
+use Rattle.jruntime.specs.jstate.FrameLists.{Framed, all}
+use Rattle.jruntime.specs.jstate.HeapMeanings.{first, number_in, store_by}
+use Rattle.jruntime.specs.declared.jguests.guests.Guests.{Guests}
+use Rattle.jruntime.specs.jguests.GuestThreads.{state_by, with_frames}
+use Rattle.jlibcalls.specs.jthreading.ThreadFrames.{gone}
+use Rattle.jlibcalls.proofs.JthreadingProofs.ThreadFrames.{are_behind, behind_lives, more_frames, turned_stay}
+use Rattle.jlibcalls.proofs.JthreadingProofs.ThreadCreation.{has_cell, held_there, makes_row, makes_so, one_more_state, some_cells, thread_there, written, written_alike}
+use Rattle.jlibcalls.proofs.JthreadingProofs.ThreadOutcomes.{framed_state}
 use Rattle.jlibcalls.proofs.jthreading.making.make.Goals as goal
 
 pub set_cell-requires : goal.set_cell-requires

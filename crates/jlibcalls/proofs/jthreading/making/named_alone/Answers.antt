@@ -1,5 +1,5 @@
 use Rattle.jlibcalls.proofs.JthreadingProofs.Operands.{alone_few, given_alone}
-use Rattle.jlibcalls.proofs.JthreadingProofs.Rows.{few_are}
+use Rattle.jlibcalls.proofs.JthreadingProofs.ThreadOutcomes.{few_are}
 use Rattle.jlibcalls.proofs.jthreading.making.named_alone.Goals as goal
 
 pub returns-then-count-ne2 : goal.returns-then-count-ne2

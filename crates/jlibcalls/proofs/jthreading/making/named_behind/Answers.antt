@@ -1,5 +1,5 @@
 use Rattle.std.proofs.Common.{◌∙◌, ◌+◌, Some, sym, ap, arith}
-use Rattle.jlibcalls.proofs.JthreadingProofs.Made.{may_less, object_is, object_same}
+use Rattle.jlibcalls.proofs.JthreadingProofs.ThreadCreation.{may_less, object_is, object_same}
 use Rattle.jlibcalls.proofs.jthreading.making.named_behind.Goals as goal
 
 pub operand_at-requires : goal.operand_at-requires

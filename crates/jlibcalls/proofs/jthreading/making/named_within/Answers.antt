@@ -1,7 +1,7 @@
 use Rattle.std.proofs.Common.{◌∙◌, Some, ap, arith}
-use Rattle.jlibcalls.proofs.JthreadingProofs.Made.{may_less}
+use Rattle.jlibcalls.proofs.JthreadingProofs.ThreadCreation.{may_less}
 use Rattle.jlibcalls.proofs.JthreadingProofs.Operands.{given_within, within_few, within_other}
-use Rattle.jlibcalls.proofs.JthreadingProofs.Rows.{few_are}
+use Rattle.jlibcalls.proofs.JthreadingProofs.ThreadOutcomes.{few_are}
 use Rattle.jlibcalls.proofs.jthreading.making.named_within.Goals as goal
 
 pub returns-then-count-ne3 : goal.returns-then-count-ne3

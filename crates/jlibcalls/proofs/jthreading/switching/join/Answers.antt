@@ -2,15 +2,15 @@ use Rattle.std.proofs.Common.{◌≡◌, ◌∙◌, ℕ, ap, sym, subst}
 use Rattle.std.specs.Prelude.{option_map}
 use Rattle.jlib.specs.declared.calls.ThreadCall.TheVariants as threads
 use Rattle.jthreads.specs.declared.table.Joined.TheVariants.{AtOnce, Waits}
-use Rattle.jthreads.specs.Table.{join_answer, joined}
-use Rattle.jmodel.specs.jmachine.Turns.{thread_of}
-use Rattle.jmodel.specs.jstate.Seen.{store_by}
-use Rattle.jmodel.specs.declared.jguests.guests.Guests.{Guests}
-use Rattle.jmodel.specs.jguests.Guested.{state_by, with_frames, with_table}
-use Rattle.jlibcalls.specs.jthreading.Switching.{WentOn, behind, gone}
-use Rattle.jlibcalls.specs.jthreading.Threading.{thread_called}
-use Rattle.jlibcalls.proofs.JthreadingProofs.Lasting.{behind_lives, behind_waits, joined_is, same_stay, those_stay, turned_lives, waiting_stay}
-use Rattle.jlibcalls.proofs.JthreadingProofs.Rows.{at_is, join_goes, join_nobody, join_so, join_stuck, joined_same}
+use Rattle.jthreads.specs.ThreadTables.{join_answer, joined}
+use Rattle.jsemantics.specs.jmachine.ThreadTurns.{thread_of}
+use Rattle.jruntime.specs.jstate.HeapMeanings.{store_by}
+use Rattle.jruntime.specs.declared.jguests.guests.Guests.{Guests}
+use Rattle.jruntime.specs.jguests.GuestThreads.{state_by, with_frames, with_table}
+use Rattle.jlibcalls.specs.jthreading.ThreadFrames.{WentOn, behind, gone}
+use Rattle.jlibcalls.specs.jthreading.ThreadMethods.{thread_called}
+use Rattle.jlibcalls.proofs.JthreadingProofs.ThreadFrames.{behind_lives, behind_waits, joined_is, same_stay, those_stay, turned_lives, waiting_stay}
+use Rattle.jlibcalls.proofs.JthreadingProofs.ThreadOutcomes.{at_is, join_goes, join_nobody, join_so, join_stuck, joined_same}
 use Rattle.jlibcalls.proofs.jthreading.switching.join.Goals as goal
 
 pub returns-then-count-ne1-clause-row : goal.returns-then-count-ne1-clause-row

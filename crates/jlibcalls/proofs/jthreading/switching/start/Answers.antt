@@ -1,15 +1,15 @@
 use Rattle.std.proofs.Common.{◌≡◌, ◌∙◌, ℕ, Option, Some, ap, sym, subst}
 use Rattle.std.specs.Prelude.{option_map}
 use Rattle.jlib.specs.declared.calls.ThreadCall.TheVariants as threads
-use Rattle.jthreads.specs.Table.{is_started, table_after_start}
-use Rattle.jmodel.specs.jstate.Framed.{Framed}
-use Rattle.jmodel.specs.jstate.Seen.{store_by}
-use Rattle.jmodel.specs.declared.jguests.guests.Guests.{Guests}
-use Rattle.jmodel.specs.jguests.Guested.{state_by, with_frames, with_table}
-use Rattle.jlibcalls.specs.jthreading.Switching.{Shrunk, WentOn, gone, lost, without}
-use Rattle.jlibcalls.specs.jthreading.Threading.{thread_called}
-use Rattle.jlibcalls.proofs.JthreadingProofs.Lasting.{behind_waits, raised_is, raised_lives, same_stay, started_stay, those_stay, turned_lives}
-use Rattle.jlibcalls.proofs.JthreadingProofs.Rows.{is_false, is_true, may_behind, start_nobody, start_raises, start_so, start_stuck, started_same}
+use Rattle.jthreads.specs.ThreadTables.{is_started, table_after_start}
+use Rattle.jruntime.specs.jstate.FrameLists.{Framed}
+use Rattle.jruntime.specs.jstate.HeapMeanings.{store_by}
+use Rattle.jruntime.specs.declared.jguests.guests.Guests.{Guests}
+use Rattle.jruntime.specs.jguests.GuestThreads.{state_by, with_frames, with_table}
+use Rattle.jlibcalls.specs.jthreading.ThreadFrames.{Shrunk, WentOn, gone, lost, without}
+use Rattle.jlibcalls.specs.jthreading.ThreadMethods.{thread_called}
+use Rattle.jlibcalls.proofs.JthreadingProofs.ThreadFrames.{behind_waits, raised_is, raised_lives, same_stay, started_stay, those_stay, turned_lives}
+use Rattle.jlibcalls.proofs.JthreadingProofs.ThreadOutcomes.{is_false, is_true, may_behind, start_nobody, start_raises, start_so, start_stuck, started_same}
 use Rattle.jlibcalls.proofs.jthreading.switching.start.Goals as goal
 
 pub returns-then-count-ne1-clause-row : goal.returns-then-count-ne1-clause-row
@@ -22,8 +22,8 @@ returns-in_default-clause-row g c r p plan shapes things constants f frames sche
     ∙ start_nobody c.heap_laws.ensures.each c.guest_laws.ensures r p plan shapes things constants c.args.heap.now c.args.guests.now f c.operand.result
     (c.operand.ensures f frames) (sym c.thread_in.ensures ∙ c.in_default.is)
 
-pub lose-requires : goal.lose-requires
-lose-requires g c = may_behind c.args.count _ c.args.guests.now c.start.new.self c.start.ensures.table c.requires.may
+pub lose_operands-requires : goal.lose_operands-requires
+lose_operands-requires g c = may_behind c.args.count _ c.args.guests.now c.start.new.self c.start.ensures.table c.requires.may
 
 pub go_on-requires : goal.go_on-requires
 go_on-requires g c = may_behind c.args.count _ c.args.guests.now c.start.new.self c.start.ensures.table c.requires.may
@@ -34,8 +34,8 @@ returns-then-not-start-clause-row g c r p plan shapes things constants f frames 
     let old = c.args.guests.now in
     let before = is_false c.start.result (is_started old.table c.in-Some.t) c.start.ensures.answer c.if-not-start.true in
     let same : c.start.new.self ≡ old = c.start.ensures.table ∙ ap (λ ts. with_table ts old) (started_same old.table c.in-Some.t before) in
-    let lost_is : c.lose.new.guests ≡ with_frames (Some (lost 1 f)) old =
-    subst (λ (n : ℕ). Shrunk n c.start.new.self c.lose.new.guests) c.if-count-ne1.false c.lose.ensures
+    let lost_is : c.lose_operands.new.guests ≡ with_frames (Some (lost 1 f)) old =
+    subst (λ (n : ℕ). Shrunk n c.start.new.self c.lose_operands.new.guests) c.if-count-ne1.false c.lose_operands.ensures
     ∙ ap (λ (x : Guests E). with_frames (option_map (lost 1) x.running.frames) x) same
     ∙ ap (λ (o : Option (Framed E)). with_frames (option_map (lost 1) o) old) frames in (
       lost 1 f,
@@ -67,21 +67,21 @@ pub returns-then-not-start-clause-stay : goal.returns-then-not-start-clause-stay
 returns-then-not-start-clause-stay g c =
     let old = c.args.guests.now in
     let before = is_false c.start.result (is_started old.table c.in-Some.t) c.start.ensures.answer c.if-not-start.true in
-    those_stay (without c.args.count old) c.lose.new.guests
-    (raised_is c.args.count c.in-Some.t old c.start.new.self c.lose.new.guests c.start.ensures.table before c.lose.ensures)
+    those_stay (without c.args.count old) c.lose_operands.new.guests
+    (raised_is c.args.count c.in-Some.t old c.start.new.self c.lose_operands.new.guests c.start.ensures.table before c.lose_operands.ensures)
 
 pub returns-then-not-start-clause-framed : goal.returns-then-not-start-clause-framed
 returns-then-not-start-clause-framed g c =
     let old = c.args.guests.now in
     let before = is_false c.start.result (is_started old.table c.in-Some.t) c.start.ensures.answer c.if-not-start.true in
-    raised_is c.args.count c.in-Some.t old c.start.new.self c.lose.new.guests c.start.ensures.table before c.lose.ensures
+    raised_is c.args.count c.in-Some.t old c.start.new.self c.lose_operands.new.guests c.start.ensures.table before c.lose_operands.ensures
 
 pub returns-then-not-start-clause-lives : goal.returns-then-not-start-clause-lives
 returns-then-not-start-clause-lives g c =
     let old = c.args.guests.now in
     let before = is_false c.start.result (is_started old.table c.in-Some.t) c.start.ensures.answer c.if-not-start.true in
-    raised_lives c.args.count old c.lose.new.guests
-    (raised_is c.args.count c.in-Some.t old c.start.new.self c.lose.new.guests c.start.ensures.table before c.lose.ensures)
+    raised_lives c.args.count old c.lose_operands.new.guests
+    (raised_is c.args.count c.in-Some.t old c.start.new.self c.lose_operands.new.guests c.start.ensures.table before c.lose_operands.ensures)
 
 pub returns-clause-stay : goal.returns-clause-stay
 returns-clause-stay g c =

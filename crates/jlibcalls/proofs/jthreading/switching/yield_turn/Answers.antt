@@ -1,11 +1,11 @@
 use Rattle.std.proofs.Common.{◌∙◌, ℕ, ap, subst}
 use Rattle.jlib.specs.declared.calls.ThreadCall.TheVariants as threads
-use Rattle.jmodel.specs.jguests.Guested.{state_by}
-use Rattle.jmodel.specs.jstate.Seen.{store_by}
-use Rattle.jlibcalls.specs.jthreading.Threading.{thread_called}
-use Rattle.jlibcalls.specs.jthreading.Switching.{WentOn}
-use Rattle.jlibcalls.proofs.JthreadingProofs.Lasting.{behind_waits, same_stay, turned_lives, turned_stay}
-use Rattle.jlibcalls.proofs.JthreadingProofs.Rows.{yield_so, yield_stuck}
+use Rattle.jruntime.specs.jguests.GuestThreads.{state_by}
+use Rattle.jruntime.specs.jstate.HeapMeanings.{store_by}
+use Rattle.jlibcalls.specs.jthreading.ThreadMethods.{thread_called}
+use Rattle.jlibcalls.specs.jthreading.ThreadFrames.{WentOn}
+use Rattle.jlibcalls.proofs.JthreadingProofs.ThreadFrames.{behind_waits, same_stay, turned_lives, turned_stay}
+use Rattle.jlibcalls.proofs.JthreadingProofs.ThreadOutcomes.{yield_so, yield_stuck}
 use Rattle.jlibcalls.proofs.jthreading.switching.yield_turn.Goals as goal
 
 pub returns-then-count-ne0-clause-row : goal.returns-then-count-ne0-clause-row

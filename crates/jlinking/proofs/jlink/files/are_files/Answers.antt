@@ -1,9 +1,9 @@
 use Rattle.std.proofs.Common.{◌≤◌, List, length, ap, arith, subst}
 use Rattle.std.specs.List.{AllByRecursion}
 use Rattle.std.proofs.lemmas.List.{take_all}
-use Rattle.jprogram.specs.declared.part.CodePart.{CodePart}
-use Rattle.jlinking.specs.jlink.Coded.{IsFile}
-use Rattle.jlinking.proofs.JlinkProofs.Filed.{file_at}
+use Rattle.jresolution.specs.declared.jprogram.part.CodePart.{CodePart}
+use Rattle.jlinking.specs.jlink.ProgramFiles.{IsFile}
+use Rattle.jlinking.proofs.JlinkProofs.FittingClassFiles.{file_at}
 use Rattle.jlinking.proofs.jlink.files.are_files.Goals as goal
 
 pub returns : goal.returns

@@ -1,6 +1,6 @@
 use Rattle.std.proofs.Common.{take}
 use Rattle.std.specs.List.{AllByRecursion}
-use Rattle.jlinking.specs.jlink.Coded.{IsFile}
+use Rattle.jlinking.specs.jlink.ProgramFiles.{IsFile}
 use Rattle.jlinking.proofs.jlink.files.are_files.Given as goal
 
 abbrev pub invariant-loop-part : goal.invariant-loop-part

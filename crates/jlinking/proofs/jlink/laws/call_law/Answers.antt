@@ -1,4 +1,4 @@
-use Rattle.jlinking.proofs.JlinkProofs.Calling.{named}
+use Rattle.jlinking.proofs.JlinkProofs.CallResolution.{named}
 use Rattle.jlinking.proofs.jlink.laws.call_law.Goals as goal
 
 pub returns : goal.returns

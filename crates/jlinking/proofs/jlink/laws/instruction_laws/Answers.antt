@@ -1,4 +1,4 @@
-use Rattle.jlinking.proofs.JlinkProofs.Coded.{leads_within, means}
+use Rattle.jlinking.proofs.JlinkProofs.CodeMeanings.{leads_within, means}
 use Rattle.jlinking.proofs.jlink.laws.instruction_laws.Goals as goal
 
 pub returns-clause-means : goal.returns-clause-means

@@ -1,4 +1,4 @@
-use Rattle.jlinking.proofs.JlinkProofs.Filed.{has_name}
+use Rattle.jlinking.proofs.JlinkProofs.FittingClassFiles.{has_name}
 use Rattle.jlinking.proofs.jlink.laws.name_law.Goals as goal
 
 pub returns : goal.returns

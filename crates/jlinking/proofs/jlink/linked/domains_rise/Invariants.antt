@@ -1,5 +1,5 @@
 use Rattle.std.proofs.Common.{◌≡◌, drop}
-use Rattle.jlinking.specs.jlink.Links.{domains_rise}
+use Rattle.jlinking.specs.jlink.LinkedPrograms.{domains_rise}
 use Rattle.jlinking.proofs.jlink.linked.domains_rise.Given as goal
 
 abbrev pub invariant-loop-part : goal.invariant-loop-part

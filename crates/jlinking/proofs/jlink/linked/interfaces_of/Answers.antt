@@ -1,4 +1,4 @@
-use Rattle.jlinking.proofs.JlinkProofs.Layered.{ordered}
+use Rattle.jlinking.proofs.JlinkProofs.PhaseOrder.{ordered}
 use Rattle.jlinking.proofs.jlink.linked.interfaces_of.Goals as goal
 
 pub of-requires : goal.of-requires

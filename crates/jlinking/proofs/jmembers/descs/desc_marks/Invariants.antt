@@ -1,5 +1,5 @@
 use Rattle.std.proofs.Common.{◌≡◌, take}
-use Rattle.jlinking.specs.jmembers.Known.{desc_marks}
+use Rattle.jlinking.specs.jmembers.PoolTexts.{desc_marks}
 use Rattle.jlinking.proofs.jmembers.descs.desc_marks.Given as goal
 
 abbrev pub invariant-loop-one : goal.invariant-loop-one

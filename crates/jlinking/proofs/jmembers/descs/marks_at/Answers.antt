@@ -1,5 +1,5 @@
 use Rattle.std.proofs.Common.{ap, ◌∙◌}
-use Rattle.jlinking.proofs.JmembersProofs.Marking.{marked, marks_or}
+use Rattle.jlinking.proofs.JmembersProofs.PoolTextMarks.{marked, marks_or}
 use Rattle.jlinking.proofs.jmembers.descs.marks_at.Goals as goal
 
 pub returns-in-Some : goal.returns-in-Some

@@ -1,5 +1,5 @@
 use Rattle.std.proofs.Common.{sym, ◌∙◌}
-use Rattle.jlinking.proofs.JmembersProofs.Fixing.{fixed_none}
+use Rattle.jlinking.proofs.JmembersProofs.FixedMethods.{fixed_none}
 use Rattle.jlinking.proofs.jmembers.fixed.is_fixed.Goals as goal
 
 pub returns-then-not-is_fixed_somewhere : goal.returns-then-not-is_fixed_somewhere

@@ -1,6 +1,6 @@
 use Rattle.std.proofs.Common.{◌≡◌, ◌-◌, ◌+◌, length}
 use Rattle.std.specs.List.{list_any}
-use Rattle.jprogram.specs.Classes.{chain, known}
+use Rattle.jresolution.specs.jprogram.ProgramClasses.{chain, known}
 use Rattle.jlinking.specs.ProofNames.{is_fixed_at}
 use Rattle.jlinking.proofs.jmembers.fixed.is_fixed_upwards.Given as goal
 

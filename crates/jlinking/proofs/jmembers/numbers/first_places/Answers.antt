@@ -1,4 +1,4 @@
-use Rattle.jlinking.proofs.JmembersProofs.Numbering.{first_end, first_next, first_none}
+use Rattle.jlinking.proofs.JmembersProofs.TextNumbers.{first_end, first_next, first_none}
 use Rattle.jlinking.proofs.jmembers.numbers.first_places.Goals as goal
 
 pub loop-i-init : goal.loop-i-init

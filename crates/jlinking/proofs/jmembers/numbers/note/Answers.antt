@@ -1,5 +1,5 @@
 use Rattle.std.proofs.Common.{sym, ◌∙◌}
-use Rattle.jprogram.proofs.Table.{noted, noted_before}
+use Rattle.jresolution.proofs.JprogramProofs.NameTables.{noted, noted_before}
 use Rattle.jlinking.proofs.jmembers.numbers.note.Goals as goal
 
 pub returns : goal.returns

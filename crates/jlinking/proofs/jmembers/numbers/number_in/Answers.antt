@@ -1,6 +1,6 @@
 use Rattle.std.proofs.Common.{length, ap, ◌∙◌}
-use Rattle.jlinking.specs.jmembers.Known.{has_text}
-use Rattle.jlinking.proofs.JmembersProofs.Numbering.{number_or, placed}
+use Rattle.jlinking.specs.jmembers.PoolTexts.{has_text}
+use Rattle.jlinking.proofs.JmembersProofs.TextNumbers.{number_or, placed}
 use Rattle.jlinking.proofs.jmembers.numbers.number_in.Goals as goal
 
 pub returns-in-Some : goal.returns-in-Some

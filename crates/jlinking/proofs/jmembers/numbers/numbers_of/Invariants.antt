@@ -1,5 +1,5 @@
 use Rattle.std.proofs.Common.{◌≡◌, take}
-use Rattle.jlinking.specs.jmembers.Known.{numbers_of}
+use Rattle.jlinking.specs.jmembers.PoolTexts.{numbers_of}
 use Rattle.jlinking.proofs.jmembers.numbers.numbers_of.Given as goal
 
 abbrev pub invariant-loop-one : goal.invariant-loop-one

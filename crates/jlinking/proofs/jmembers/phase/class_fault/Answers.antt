@@ -1,7 +1,7 @@
 use Rattle.std.proofs.Common.{◌≡◌, ◌<◌, length, ap, ◌∙◌, arith}
 use Rattle.jclass.specs.declared.class.ClassParts.{ClassParts}
-use Rattle.jprogram.proofs.Counts.{few_fields, few_methods}
-use Rattle.jlinking.specs.jmembers.Known.{Declaring}
+use Rattle.jresolution.proofs.JprogramProofs.MemberCounts.{few_fields, few_methods}
+use Rattle.jlinking.specs.jmembers.PoolTexts.{Declaring}
 use Rattle.jlinking.proofs.jmembers.phase.class_fault.Goals as goal
 
 pub methods_fault-requires : goal.methods_fault-requires

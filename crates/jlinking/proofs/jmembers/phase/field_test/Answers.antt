@@ -1,6 +1,6 @@
 use Rattle.std.proofs.Common.{None, Some, refl, sym, ◌∙◌}
-use Rattle.jlinking.specs.jmembers.Declares.{field_left_out_test, types_test}
-use Rattle.jlinking.proofs.JmembersProofs.Testing.{field_by}
+use Rattle.jlinking.specs.jmembers.MemberDeclarations.{field_left_out_test, types_test}
+use Rattle.jlinking.proofs.JmembersProofs.MemberTests.{field_by}
 use Rattle.jlinking.proofs.jmembers.phase.field_test.Goals as goal
 
 pub returns-in-Some : goal.returns-in-Some

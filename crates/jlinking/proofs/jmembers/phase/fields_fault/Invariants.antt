@@ -1,7 +1,7 @@
 use Rattle.std.proofs.Common.{◌≡◌, ◌+◌, drop, length, take}
-use Rattle.jground.specs.jbase.First.{first_along}
-use Rattle.jlinking.specs.jmembers.Declares.{at_member, field_test}
-use Rattle.jlinking.specs.jmembers.Met.{HasMet}
+use Rattle.jground.specs.jbase.FirstFaults.{first_along}
+use Rattle.jlinking.specs.jmembers.MemberDeclarations.{at_member, field_test}
+use Rattle.jlinking.specs.jmembers.MemberSets.{HasMet}
 use Rattle.jlinking.proofs.jmembers.phase.fields_fault.Given as goal
 
 abbrev pub invariant-loop-k : goal.invariant-loop-k

@@ -1,5 +1,5 @@
 use Rattle.std.proofs.Common.{◌≡◌, drop}
-use Rattle.jground.specs.jbase.First.{first_along}
+use Rattle.jground.specs.jbase.FirstFaults.{first_along}
 use Rattle.jlinking.specs.ProofNames.{class_fault}
 use Rattle.jlinking.proofs.jmembers.phase.members_fault.Given as goal
 

@@ -1,5 +1,5 @@
 use Rattle.std.proofs.Common.{ℕ, ap, ◌∙◌}
-use Rattle.jlinking.specs.jmembers.Declares.{at_member}
+use Rattle.jlinking.specs.jmembers.MemberDeclarations.{at_member}
 use Rattle.jlinking.proofs.jmembers.phase.method_fault.Goals as goal
 
 pub returns : goal.returns

@@ -1,6 +1,6 @@
 use Rattle.std.proofs.Common.{None, Some, refl, sym, ◌∙◌}
-use Rattle.jlinking.specs.jmembers.Declares.{final_test, library_test, method_left_out_test, types_test}
-use Rattle.jlinking.proofs.JmembersProofs.Testing.{method_by}
+use Rattle.jlinking.specs.jmembers.MemberDeclarations.{final_test, library_test, method_left_out_test, types_test}
+use Rattle.jlinking.proofs.JmembersProofs.MemberTests.{method_by}
 use Rattle.jlinking.proofs.jmembers.phase.method_test.Goals as goal
 
 pub returns-in-Some : goal.returns-in-Some

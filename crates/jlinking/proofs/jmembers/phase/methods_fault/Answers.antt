@@ -1,9 +1,9 @@
 use Rattle.std.proofs.Common.{◌≡◌, ◌<◌, ◌≤◌, List, length, get_or, take, refl, sym, ap, subst, ◌∙◌}
 use Rattle.jclass.specs.declared.class.ClassParts.{ClassParts}
 use Rattle.jclass.specs.declared.class.MemberInfo.{MemberInfo}
-use Rattle.jlinking.specs.jmembers.Declares.{at_member, method_test, methods_fault}
-use Rattle.jlinking.proofs.JmembersProofs.Along.{step_end, step_none, step_some}
-use Rattle.jlinking.proofs.JmembersProofs.Meeting.{met_next, met_none}
+use Rattle.jlinking.specs.jmembers.MemberDeclarations.{at_member, method_test, methods_fault}
+use Rattle.jlinking.proofs.JmembersProofs.FirstFaults.{step_end, step_none, step_some}
+use Rattle.jlinking.proofs.JmembersProofs.MemberSets.{met_next, met_none}
 use Rattle.jlinking.proofs.jmembers.phase.methods_fault.Goals as goal
 
 pub loop-k-init : goal.loop-k-init

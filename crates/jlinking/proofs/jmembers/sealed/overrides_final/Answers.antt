@@ -1,9 +1,9 @@
 use Rattle.std.proofs.Common.{◌≡◌, ℕ, ◌+◌, ◌-◌, Bool, List, length, Option, sym, ap, subst, ◌∙◌, arith}
-use Rattle.jprogram.specs.declared.member.Member.{Member}
-use Rattle.jprogram.specs.Classes.{chain, known, onward}
-use Rattle.jprogram.specs.Members.{method_at, methods_along}
-use Rattle.jlinking.specs.jmembers.Sealed.{Looks, barred_by, has}
-use Rattle.jlinking.proofs.JmembersProofs.Barring.{walk_begin, walk_end, walk_found, walk_on, walk_top}
+use Rattle.jresolution.specs.declared.jprogram.member.Member.{Member}
+use Rattle.jresolution.specs.jprogram.ProgramClasses.{chain, known, onward}
+use Rattle.jresolution.specs.jprogram.MemberResolution.{method_at, methods_along}
+use Rattle.jlinking.specs.jmembers.FinalOverrides.{Looks, barred_by, has}
+use Rattle.jlinking.proofs.JmembersProofs.FinalOverrides.{walk_begin, walk_end, walk_found, walk_on, walk_top}
 use Rattle.jlinking.proofs.jmembers.sealed.overrides_final.Goals as goal
 
 pub loop-step-init : goal.loop-step-init

@@ -1,9 +1,9 @@
 use Rattle.std.proofs.Common.{◌≡◌, ◌-◌, ◌+◌, length}
-use Rattle.jprogram.specs.Classes.{chain, known, up}
-use Rattle.jprogram.specs.Lines.{IsAt}
-use Rattle.jprogram.specs.Members.{methods_along}
-use Rattle.jlinking.specs.jmembers.Declares.{overrides_final}
-use Rattle.jlinking.specs.jmembers.Sealed.{barred_by, has}
+use Rattle.jresolution.specs.jprogram.ProgramClasses.{chain, known, up}
+use Rattle.jresolution.specs.jprogram.ClassTables.{IsAt}
+use Rattle.jresolution.specs.jprogram.MemberResolution.{methods_along}
+use Rattle.jlinking.specs.jmembers.MemberDeclarations.{overrides_final}
+use Rattle.jlinking.specs.jmembers.FinalOverrides.{barred_by, has}
 use Rattle.std.proofs.Common.{[]}
 use Rattle.jlinking.proofs.jmembers.sealed.overrides_final.Given as goal
 

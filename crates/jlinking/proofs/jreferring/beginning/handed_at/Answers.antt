@@ -1,8 +1,8 @@
 use Rattle.std.proofs.Common.{◌≡◌, sym, ap, ◌∙◌}
 use Rattle.jparts.specs.jpool.Descriptors.{descriptor_of}
-use Rattle.jprogram.specs.Parts.{text}
-use Rattle.jlinking.specs.jreferring.Names.{params_test}
-use Rattle.jmeaning.proofs.JusesProofs.Noting.{all_more}
+use Rattle.jresolution.specs.jprogram.ClassFileParts.{text}
+use Rattle.jlinking.specs.jreferring.ClassNameAccess.{params_test}
+use Rattle.jresolution.proofs.JusesProofs.CacheInvariants.{all_more}
 use Rattle.jlinking.proofs.jreferring.beginning.handed_at.Goals as goal
 
 pub returns-in-Some-clause-value : goal.returns-in-Some-clause-value

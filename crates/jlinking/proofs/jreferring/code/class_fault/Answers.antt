@@ -1,4 +1,4 @@
-use Rattle.jlinking.proofs.JreferringProofs.Few.{few_in}
+use Rattle.jlinking.proofs.JreferringProofs.MethodCounts.{few_in}
 use Rattle.jlinking.proofs.jreferring.code.class_fault.Goals as goal
 
 pub methods_fault-requires : goal.methods_fault-requires

@@ -1,6 +1,6 @@
 use Rattle.std.proofs.Common.{◌≡◌, drop}
-use Rattle.jground.specs.jbase.First.{first_along}
-use Rattle.jlinking.specs.jreferring.Code.{class_fault}
+use Rattle.jground.specs.jbase.FirstFaults.{first_along}
+use Rattle.jlinking.specs.jreferring.CodeChecks.{class_fault}
 use Rattle.jlinking.proofs.jreferring.code.code_fault.Given as goal
 
 abbrev pub invariant-loop-i : goal.invariant-loop-i

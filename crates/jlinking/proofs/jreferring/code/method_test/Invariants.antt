@@ -1,10 +1,10 @@
 use Rattle.std.proofs.Common.{◌≡◌, drop}
 use Rattle.std.specs.Prelude.{option_and_then}
-use Rattle.jground.specs.jbase.First.{first_some}
-use Rattle.jclass.specs.Members.{body_of}
-use Rattle.jprogram.specs.Parts.{text}
-use Rattle.jlinking.specs.jreferring.Code.{body_test, method_test}
-use Rattle.jlinking.specs.jreferring.Known.{AreHanded}
+use Rattle.jground.specs.jbase.FirstFaults.{first_some}
+use Rattle.jclass.specs.MemberFormat.{body_of}
+use Rattle.jresolution.specs.jprogram.ClassFileParts.{text}
+use Rattle.jlinking.specs.jreferring.CodeChecks.{body_test, method_test}
+use Rattle.jlinking.specs.jreferring.PoolTextCache.{AreHanded}
 use Rattle.jlinking.proofs.jreferring.code.method_test.Given as goal
 
 abbrev pub invariant-loop-attribute : goal.invariant-loop-attribute

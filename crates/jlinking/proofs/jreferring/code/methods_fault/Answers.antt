@@ -1,8 +1,8 @@
 use Rattle.std.proofs.Common.{◌≡◌, refl}
 use Rattle.jparts.specs.jpool.Descriptors.{descriptor_of}
-use Rattle.jprogram.specs.Parts.{text}
-use Rattle.jmeaning.proofs.JusesProofs.Noting.{all_none}
-use Rattle.jlinking.specs.jreferring.Names.{params_test}
+use Rattle.jresolution.specs.jprogram.ClassFileParts.{text}
+use Rattle.jresolution.proofs.JusesProofs.CacheInvariants.{all_none}
+use Rattle.jlinking.specs.jreferring.ClassNameAccess.{params_test}
 use Rattle.jlinking.proofs.jreferring.code.methods_fault.Goals as goal
 
 pub loop-j-init : goal.loop-j-init

@@ -1,10 +1,10 @@
 use Rattle.std.proofs.Common.{◌≡◌, drop}
-use Rattle.jground.specs.jbase.First.{first_along}
-use Rattle.jlinking.specs.jreferring.Code.{method_test}
+use Rattle.jground.specs.jbase.FirstFaults.{first_along}
+use Rattle.jlinking.specs.jreferring.CodeChecks.{method_test}
 use Rattle.jlinking.specs.ProofNames.{methods_fault}
-use Rattle.jlinking.specs.jreferring.Known.{AreHanded}
+use Rattle.jlinking.specs.jreferring.PoolTextCache.{AreHanded}
 use Rattle.jlinking.proofs.jreferring.code.methods_fault.Given as goal
-use Rattle.jlinking.specs.jmembers.Declares.{at_member as in_method}
+use Rattle.jlinking.specs.jmembers.MemberDeclarations.{at_member as in_method}
 
 abbrev pub invariant-loop-j : goal.invariant-loop-j
 invariant-loop-j l =

@@ -1,6 +1,6 @@
 use Rattle.std.proofs.Common.{◌≡◌, map, take}
-use Rattle.jlinking.specs.jreferring.Entries.{judge}
-use Rattle.jlinking.specs.jreferring.Known.{AreKnown}
+use Rattle.jlinking.specs.jreferring.PoolEntryMeanings.{judge}
+use Rattle.jlinking.specs.jreferring.PoolTextCache.{AreKnown}
 use Rattle.jlinking.proofs.jreferring.entries.judge_all.Given as goal
 
 abbrev pub invariant-loop-one : goal.invariant-loop-one

@@ -1,6 +1,6 @@
 use Rattle.std.proofs.Common.{◌≡◌, drop}
-use Rattle.jground.specs.jbase.First.{first_some}
-use Rattle.jlinking.specs.jreferring.Units.{handler_test}
+use Rattle.jground.specs.jbase.FirstFaults.{first_some}
+use Rattle.jlinking.specs.jreferring.CodeUnits.{handler_test}
 use Rattle.jlinking.proofs.jreferring.units.handlers_test.Given as goal
 
 abbrev pub invariant-loop-one : goal.invariant-loop-one

@@ -1,6 +1,6 @@
 use Rattle.std.proofs.Common.{◌≡◌, drop}
-use Rattle.jground.specs.jbase.First.{first_some}
-use Rattle.jlinking.specs.jreferring.Units.{item_names}
+use Rattle.jground.specs.jbase.FirstFaults.{first_some}
+use Rattle.jlinking.specs.jreferring.CodeUnits.{item_names}
 use Rattle.jlinking.proofs.jreferring.units.items_names.Given as goal
 
 abbrev pub invariant-loop-one : goal.invariant-loop-one

@@ -1,5 +1,5 @@
 use Rattle.std.proofs.Common.{◌≡◌, drop}
-use Rattle.jground.specs.jbase.First.{first_some}
+use Rattle.jground.specs.jbase.FirstFaults.{first_some}
 use Rattle.jparts.specs.ProofNames.{lost}
 use Rattle.jparts.proofs.jcode.branches.first_lost.Given as goal
 

@@ -1,5 +1,5 @@
 use Rattle.std.proofs.Common.{sym, arith}
-use Rattle.jground.proofs.JformatProofs.Placing.{fails_at}
+use Rattle.jground.proofs.JformatProofs.FaultOffsets.{fails_at}
 use Rattle.jparts.specs.jcode.Instructions.{code}
 use Rattle.jparts.proofs.JcodeProofs.CodeLaws.{code_law}
 use Rattle.jparts.proofs.JcodeProofs.Places.{good, lost_one, faulty, read_rises}

@@ -1,6 +1,6 @@
 use Rattle.std.proofs.Common.{◌-◌, ◌<◌, length, refl}
 use Rattle.std.proofs.lemmas.Result.{err_from_is_err_and}
-use Rattle.jground.proofs.JformatProofs.Turns.{many_more, many_fail, many_done, many_over, is_none, is_some}
+use Rattle.jground.proofs.JformatProofs.ReadingLoops.{many_more, many_fail, many_done, many_over, is_none, is_some}
 use Rattle.jparts.specs.declared.jcode.fault.CodeFault.TheVariants.{Truncated}
 use Rattle.jparts.specs.jcode.Instructions.{placed, place_behind, placed_at, instructions}
 use Rattle.jparts.proofs.JcodeProofs.Places.{goes, reads_placed, stops_placed}

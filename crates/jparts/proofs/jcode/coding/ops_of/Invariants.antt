@@ -1,7 +1,7 @@
 use Rattle.std.proofs.Common.{◌≡◌, ◌-◌, ◌≤◌, length}
 use Rattle.jground.specs.jformat.Format.{IsBytes}
-use Rattle.jground.specs.jformat.States.{many_from}
-use Rattle.jground.proofs.JformatProofs.Turns.{with_list}
+use Rattle.jground.specs.jformat.StatefulFormats.{many_from}
+use Rattle.jground.proofs.JformatProofs.ReadingLoops.{with_list}
 use Rattle.jparts.specs.declared.jcode.fault.CodeFault.TheVariants.{Truncated}
 use Rattle.jparts.specs.jcode.Instructions.{placed, place_behind}
 use Rattle.jparts.proofs.jcode.coding.ops_of.Given as goal

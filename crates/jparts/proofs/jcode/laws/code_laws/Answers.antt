@@ -1,7 +1,7 @@
 use Rattle.std.proofs.Common.{sym, ◌∙◌}
 use Rattle.jground.specs.declared.jformat.error.Fault.{Fault}
 use Rattle.jparts.specs.declared.jcode.fault.CodeFault.{CodeFault}
-use Rattle.jground.proofs.JformatProofs.Steps.{ok_is}
+use Rattle.jground.proofs.JformatProofs.ReadingSteps.{ok_is}
 use Rattle.jparts.proofs.JcodeProofs.CodeLaws.{code_law}
 use Rattle.jparts.proofs.JcodeProofs.Places.{read_is, fit_rises}
 use Rattle.jparts.proofs.jcode.laws.code_laws.Goals as goal

@@ -2,8 +2,8 @@ use Rattle.std.proofs.Common.{rules, w32, Ok}
 use Rattle.std.proofs.lemmas.Int.{to_z-of_z}
 use Rattle.std.proofs.lemmas.Result.{err_from_is_err_and}
 use mir.Val.{SFits}
-use Rattle.jparts.specs.jcode.Operands.{bounded}
-use Rattle.jparts.proofs.JcodeProofs.Stopping.{fails_on}
+use Rattle.jparts.specs.jcode.OperandFormats.{bounded}
+use Rattle.jparts.proofs.JcodeProofs.FaultPropagation.{fails_on}
 use Rattle.jparts.proofs.jcode.operands.bounded_of.Goals as goal
 
 pub returns-in_err-branches : goal.returns-in_err-branches

@@ -1,6 +1,6 @@
 use Rattle.std.proofs.Common.{◌<◌, ◌^◌, List, length, ap, arith}
 use Rattle.jparts.specs.declared.jcode.op.Case.{Case}
-use Rattle.jparts.specs.jcode.Operands.{lookup_switch}
+use Rattle.jparts.specs.jcode.OperandFormats.{lookup_switch}
 use Rattle.jparts.proofs.JcodeProofs.Sizes.{lookup_length}
 use Rattle.jparts.proofs.jcode.sizing.lookup_size.Goals as goal
 

@@ -1,5 +1,5 @@
 use Rattle.std.proofs.Common.{ℤ, ◌<◌, ◌^◌, List, length, ap, arith}
-use Rattle.jparts.specs.jcode.Operands.{table_switch}
+use Rattle.jparts.specs.jcode.OperandFormats.{table_switch}
 use Rattle.jparts.proofs.JcodeProofs.Sizes.{table_length}
 use Rattle.jparts.proofs.jcode.sizing.table_size.Goals as goal
 

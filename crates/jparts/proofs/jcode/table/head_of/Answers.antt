@@ -1,5 +1,5 @@
 use Rattle.std.proofs.Common.{Some, sym}
-use Rattle.jparts.proofs.JcodeProofs.Tabled.{table_at, left_out_at, unknown_at}
+use Rattle.jparts.proofs.JcodeProofs.OpcodeTables.{table_at, left_out_at, unknown_at}
 use Rattle.jparts.proofs.jcode.table.head_of.Goals as goal
 
 pub returns-in-Some : goal.returns-in-Some

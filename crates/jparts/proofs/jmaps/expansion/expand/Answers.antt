@@ -2,7 +2,7 @@ use Rattle.std.proofs.Common.{◌≡◌, ◌+◌, List, sym, ap, ◌∙◌, arit
 use Rattle.std.specs.Option.{option_copied}
 use Rattle.jparts.specs.declared.jmaps.types.MapType.{MapType}
 use Rattle.jparts.specs.declared.jmaps.types.FullFrame.{FullFrame}
-use Rattle.jparts.specs.jmaps.Full.{locals_before, locals_after}
+use Rattle.jparts.specs.jmaps.ExpandedFrames.{locals_before, locals_after}
 use Rattle.jparts.proofs.JmapsProofs.FullLaws.{newest, few_frames, place_fits, place_near, newest_near, expand_more, expand_stops, expand_ends, expands_in_order, expands_fit}
 use Rattle.jparts.proofs.jmaps.expansion.expand.Goals as goal
 

@@ -1,6 +1,6 @@
 use Rattle.std.proofs.Common.{◌≡◌, ◌*◌, ◌<◌, IfSome, None, drop}
 use Rattle.jground.proofs.JbaseProofs.Loops.{behind}
-use Rattle.jparts.specs.jmaps.Full.{expand_from}
+use Rattle.jparts.specs.jmaps.ExpandedFrames.{expand_from}
 use Rattle.jparts.proofs.JmapsProofs.FullLaws.{newest}
 use Rattle.jparts.proofs.jmaps.expansion.expand.Given as goal
 

@@ -1,5 +1,5 @@
 use Rattle.std.proofs.Common.{◌∙◌, ap}
-use Rattle.jparts.specs.jmaps.Frames.{maps}
+use Rattle.jparts.specs.jmaps.StackMapFormat.{maps}
 use Rattle.jparts.proofs.JmapsProofs.FullLaws.{written_is, written_again, written_expands}
 use Rattle.jparts.proofs.jmaps.full.write_maps.Goals as goal
 

@@ -1,4 +1,4 @@
-use Rattle.jparts.specs.jmaps.Frames.{frame, frames, maps}
+use Rattle.jparts.specs.jmaps.StackMapFormat.{frame, frames, maps}
 use Rattle.jparts.proofs.jmaps.read.all_of.Goals as goal
 
 pub returns : goal.returns

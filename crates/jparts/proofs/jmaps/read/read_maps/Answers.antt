@@ -1,6 +1,6 @@
 use Rattle.std.proofs.Common.{sym, ◌∙◌, arith}
-use Rattle.jground.proofs.JformatProofs.Placing.{fails_at}
-use Rattle.jparts.specs.jmaps.Frames.{maps}
+use Rattle.jground.proofs.JformatProofs.FaultOffsets.{fails_at}
+use Rattle.jparts.specs.jmaps.StackMapFormat.{maps}
 use Rattle.jparts.proofs.JmapsProofs.MapLaws.{maps_law, read_is}
 use Rattle.jparts.proofs.jmaps.read.read_maps.Goals as goal
 

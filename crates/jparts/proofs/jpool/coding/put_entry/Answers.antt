@@ -1,6 +1,6 @@
 use Rattle.std.proofs.Common.{rules, sym}
-use Rattle.jparts.specs.jpool.Entries.{entry}
-use Rattle.jparts.proofs.JpoolProofs.Fitting.{one_fits, two_fits, word_fits, long_fits, handle_fits}
+use Rattle.jparts.specs.jpool.PoolEntries.{entry}
+use Rattle.jparts.proofs.JpoolProofs.NumberWidths.{one_fits, two_fits, word_fits, long_fits, handle_fits}
 use Rattle.jparts.proofs.jpool.coding.put_entry.Goals as goal
 
 pub returns-in-Float-clause-fits : goal.returns-in-Float-clause-fits

@@ -1,5 +1,5 @@
 use Rattle.std.proofs.Common.{arith}
-use Rattle.jparts.proofs.JpoolProofs.Spelling.{text_fits}
+use Rattle.jparts.proofs.JpoolProofs.EntrySpellings.{text_fits}
 use Rattle.jparts.proofs.jpool.coding.put_text.Goals as goal
 
 pub returns-in_err-put_u8-clause-fits : goal.returns-in_err-put_u8-clause-fits

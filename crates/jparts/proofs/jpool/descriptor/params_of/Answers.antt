@@ -1,5 +1,5 @@
 use Rattle.std.proofs.Common.{length, arith, sym}
-use Rattle.jparts.specs.jpool.Pieces.{piece}
+use Rattle.jparts.specs.jpool.FieldTypes.{piece}
 use Rattle.jparts.proofs.JpoolProofs.Params.{params_close, params_bad, params_more, params_over}
 use Rattle.jparts.proofs.jpool.descriptor.params_of.Goals as goal
 

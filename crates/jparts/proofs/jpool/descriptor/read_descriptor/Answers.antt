@@ -1,4 +1,4 @@
-use Rattle.jparts.proofs.JpoolProofs.Spelled.{read_found, read_only}
+use Rattle.jparts.proofs.JpoolProofs.DescriptorTexts.{read_found, read_only}
 use Rattle.jparts.proofs.jpool.descriptor.read_descriptor.Goals as goal
 
 pub returns-clause-found : goal.returns-clause-found

@@ -1,5 +1,5 @@
 use Rattle.std.proofs.Common.{◌≡◌, ◌-◌, sym, arith}
-use Rattle.jparts.specs.jpool.Entries.{size}
+use Rattle.jparts.specs.jpool.PoolEntries.{size}
 use Rattle.jparts.proofs.JpoolProofs.PoolLaws.{fault_found, fault_later, fault_none}
 use Rattle.jparts.proofs.jpool.judge.first_fault_of.Goals as goal
 

@@ -1,5 +1,5 @@
 use Rattle.std.proofs.Common.{◌≡◌, drop}
-use Rattle.jparts.specs.jpool.Pools.{first_fault}
+use Rattle.jparts.specs.jpool.ConstantPools.{first_fault}
 use Rattle.jparts.proofs.jpool.judge.first_fault_of.Given as goal
 
 abbrev pub invariant-loop-one : goal.invariant-loop-one

@@ -1,5 +1,5 @@
 use Rattle.std.proofs.Common.{sym, ◌∙◌, arith}
-use Rattle.jparts.proofs.JpoolProofs.Parts.{name_begins, name_empty, name_next, name_byte, name_bad, name_ends}
+use Rattle.jparts.proofs.JpoolProofs.NameScans.{name_begins, name_empty, name_next, name_byte, name_bad, name_ends}
 use Rattle.jparts.proofs.jpool.names.is_class_name.Goals as goal
 use Rattle.jparts.proofs.jpool.names.is_class_name.Goals.{then-b-eq47+else-not-begun, else-b-eq47+else-not-is_name_byte}
 

@@ -1,6 +1,6 @@
 use Rattle.std.proofs.Common.{◌≡◌, drop}
-use Rattle.jparts.specs.jpool.Names.{is_class_name}
-use Rattle.jparts.proofs.JpoolProofs.Parts.{goes_on}
+use Rattle.jparts.specs.jpool.ClassNames.{is_class_name}
+use Rattle.jparts.proofs.JpoolProofs.NameScans.{goes_on}
 use Rattle.jparts.proofs.jpool.names.is_class_name.Given as goal
 
 abbrev pub invariant-loop-b : goal.invariant-loop-b

@@ -1,5 +1,5 @@
 use Rattle.std.proofs.Common.{◌≡◌, None, sym, arith, ◌∙◌}
-use Rattle.jparts.specs.jpool.Pools.{entry_fault, first_fault}
+use Rattle.jparts.specs.jpool.ConstantPools.{entry_fault, first_fault}
 use Rattle.jparts.proofs.JpoolProofs.PoolLaws.{read_is_pool}
 use Rattle.jparts.proofs.jpool.read.pool_of.Goals as goal
 

@@ -1,8 +1,8 @@
 use Rattle.std.proofs.Common.{◌≡◌, ◌+◌, List, Ok, drop, length, sym, ap, ◌∙◌, arith}
-use Rattle.jground.specs.jbase.Stops.{Fails}
-use Rattle.jground.proofs.JformatProofs.Placing.{fails_at}
+use Rattle.jground.specs.jbase.MemoryFailures.{Fails}
+use Rattle.jground.proofs.JformatProofs.FaultOffsets.{fails_at}
 use Rattle.jparts.specs.declared.jpool.entry.Entry.{Entry}
-use Rattle.jparts.specs.jpool.Pools.{pool}
+use Rattle.jparts.specs.jpool.ConstantPools.{pool}
 use Rattle.jparts.proofs.JpoolProofs.PoolLaws.{found_at, shorter_at, within_at, one_reading, stopped}
 use Rattle.jparts.proofs.jpool.read.read_pool.Goals as goal
 

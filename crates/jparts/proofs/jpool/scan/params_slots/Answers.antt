@@ -1,5 +1,5 @@
 use Rattle.std.proofs.Common.{◌*◌, ◌≤◌, [], ◌∷◌, ◌++◌, length, arith}
-use Rattle.jparts.specs.jpool.Pieces.{piece}
+use Rattle.jparts.specs.jpool.FieldTypes.{piece}
 use Rattle.jparts.proofs.JpoolProofs.Params.{params_begin, params_close, params_bad, params_more, params_over, slots_begin, slots_none, slots_some, slots_next}
 use Rattle.jparts.proofs.jpool.scan.params_slots.Goals as goal
 

@@ -1,6 +1,6 @@
 use Rattle.std.proofs.Common.{◌≡◌, ℕ, false, [], slice_index_or, subst}
 use Rattle.jperm.specs.Actions.{bit, file_actions, has_all}
-use Rattle.jperm.specs.Texts.{word_parts}
+use Rattle.jperm.specs.PermissionTexts.{word_parts}
 use Rattle.jperm.proofs.permission.Permission.action_part.Goals as goal
 
 pub returns-in-Property : goal.returns-in-Property

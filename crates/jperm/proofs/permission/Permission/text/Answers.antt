@@ -1,6 +1,6 @@
 use Rattle.std.proofs.Common.{◌++◌, ◌<◌, ◌+◌, List, ℕ, arith, drop, ap, ◌∙◌}
-use Rattle.jperm.specs.Texts.{parts}
-use Rattle.jperm.proofs.Parts.{in_a_row, part_more, parts_join}
+use Rattle.jperm.specs.PermissionTexts.{parts}
+use Rattle.jperm.proofs.TextParts.{in_a_row, part_more, parts_join}
 use Rattle.jperm.proofs.permission.Permission.text.Goals as goal
 
 pub loop-at-init : goal.loop-at-init

@@ -1,6 +1,6 @@
 use Rattle.std.proofs.Common.{◌≡◌, ◌++◌, drop}
-use Rattle.jperm.specs.Texts.{parts, text_of}
-use Rattle.jperm.proofs.Parts.{in_a_row}
+use Rattle.jperm.specs.PermissionTexts.{parts, text_of}
+use Rattle.jperm.proofs.TextParts.{in_a_row}
 use Rattle.jperm.proofs.permission.Permission.text.Given as goal
 
 abbrev pub invariant-loop-at : goal.invariant-loop-at

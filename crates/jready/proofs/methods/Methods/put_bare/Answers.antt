@@ -1,8 +1,8 @@
 use Rattle.std.proofs.Common.{[], ◌∷◌, length, refl, ap, ◌∙◌}
-use Rattle.jmeaning.proofs.JusesProofs.Spans.{grows_not}
+use Rattle.jresolution.proofs.JusesProofs.Spans.{grows_not}
 use Rattle.jready.specs.declared.instr.Instr.TheVariants.{Off}
-use Rattle.jready.proofs.Growing.{grown_not}
-use Rattle.jready.proofs.Putting.{bare_is, puts}
+use Rattle.jready.proofs.TableGrowth.{grown_not}
+use Rattle.jready.proofs.MethodAdditions.{bare_is, puts}
 use Rattle.jready.proofs.methods.Methods.put_bare.Goals as goal
 
 pub returns : goal.returns

@@ -1,9 +1,9 @@
 use Rattle.std.proofs.Common.{◌≡◌, ◌+◌, ℕ, [], ◌∷◌, length, refl, sym, ap, subst, ◌∙◌}
-use Rattle.jmeaning.specs.juses.Numbered.{seen_code}
-use Rattle.jmeaning.proofs.JusesProofs.Spans.{grows_on}
+use Rattle.jresolution.specs.juses.InternedInstructions.{seen_code}
+use Rattle.jresolution.proofs.JusesProofs.Spans.{grows_on}
 use Rattle.jready.specs.declared.instr.Instr.TheVariants.{Off}
-use Rattle.jready.specs.Laid.{AreLaid}
-use Rattle.jready.proofs.Putting.{coded_is, puts}
+use Rattle.jready.specs.CodeLayout.{AreLaid}
+use Rattle.jready.proofs.MethodAdditions.{coded_is, puts}
 use Rattle.jready.proofs.methods.Methods.put_coded.Goals as goal
 
 pub returns : goal.returns

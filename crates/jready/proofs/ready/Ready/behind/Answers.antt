@@ -1,6 +1,6 @@
 use Rattle.std.proofs.Common.{subst}
-use Rattle.jready.specs.Prepared.{IsReady}
-use Rattle.jready.proofs.Looking.{fetches_behind}
+use Rattle.jready.specs.PreparedPrograms.{IsReady}
+use Rattle.jready.proofs.ProgramLookups.{fetches_behind}
 use Rattle.jready.proofs.ready.Ready.behind.Goals as goal
 
 pub returns-clause-means : goal.returns-clause-means

@@ -1,6 +1,6 @@
 use Rattle.std.proofs.Common.{subst}
-use Rattle.jready.specs.Prepared.{IsReady}
-use Rattle.jready.proofs.Looking.{number_is}
+use Rattle.jready.specs.PreparedPrograms.{IsReady}
+use Rattle.jready.proofs.ProgramLookups.{number_is}
 use Rattle.jready.proofs.ready.Ready.called.Goals as goal
 
 pub returns-clause-number : goal.returns-clause-number

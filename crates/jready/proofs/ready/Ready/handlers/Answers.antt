@@ -1,6 +1,6 @@
 use Rattle.std.proofs.Common.{length, drop, take, ap, subst, ◌∙◌, arith}
-use Rattle.jready.specs.Prepared.{IsReady, Prepared}
-use Rattle.jready.proofs.Looking.{handlers_there, handles_row, unhandled_row}
+use Rattle.jready.specs.PreparedPrograms.{IsReady, Prepared}
+use Rattle.jready.proofs.ProgramLookups.{handlers_there, handles_row, unhandled_row}
 use Rattle.jready.proofs.ready.Ready.handlers.Goals as goal
 
 pub split_at-requires : goal.split_at-requires

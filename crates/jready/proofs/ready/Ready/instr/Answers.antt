@@ -1,7 +1,7 @@
 use Rattle.std.proofs.Common.{◌+◌, ◌<◌, List, length, sym, ap, subst, ◌∙◌}
 use Rattle.jready.specs.declared.instr.Instr.{Instr}
-use Rattle.jready.specs.Prepared.{IsReady, Prepared}
-use Rattle.jready.proofs.Looking.{exact_at, fetches_at, place_within}
+use Rattle.jready.specs.PreparedPrograms.{IsReady, Prepared}
+use Rattle.jready.proofs.ProgramLookups.{exact_at, fetches_at, place_within}
 use Rattle.jready.proofs.ready.Ready.instr.Goals as goal
 
 pub bounds-as_slice-method : goal.bounds-as_slice-method

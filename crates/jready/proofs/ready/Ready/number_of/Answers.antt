@@ -1,6 +1,6 @@
 use Rattle.std.proofs.Common.{ap, subst, ◌∙◌}
-use Rattle.jready.specs.Prepared.{IsReady, Prepared}
-use Rattle.jready.proofs.Looking.{not_found}
+use Rattle.jready.specs.PreparedPrograms.{IsReady, Prepared}
+use Rattle.jready.proofs.ProgramLookups.{not_found}
 use Rattle.jready.proofs.ready.Ready.number_of.Goals as goal
 
 pub returns-clause-none : goal.returns-clause-none

@@ -1,5 +1,5 @@
 use Rattle.std.proofs.Common.{sym, subst}
-use Rattle.jready.specs.Numbers.{AreFirsts}
+use Rattle.jready.specs.MethodNumbers.{AreFirsts}
 use Rattle.jready.proofs.ready.Ready.of.Goals as goal
 
 pub methods_of-requires : goal.methods_of-requires

@@ -1,4 +1,4 @@
-use Rattle.jrewriting.proofs.JrewriteProofs.Referring.{code_stays}
+use Rattle.jrewriting.proofs.JrewriteProofs.ReferencePhase.{code_stays}
 use Rattle.jrewriting.proofs.jrewrite.laws.code_law.Goals as goal
 
 pub returns : goal.returns

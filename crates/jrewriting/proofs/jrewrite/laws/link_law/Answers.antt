@@ -1,4 +1,4 @@
-use Rattle.jrewriting.proofs.JrewriteProofs.Referring.{links_stay}
+use Rattle.jrewriting.proofs.JrewriteProofs.ReferencePhase.{links_stay}
 use Rattle.jrewriting.proofs.jrewrite.laws.link_law.Goals as goal
 
 pub returns : goal.returns

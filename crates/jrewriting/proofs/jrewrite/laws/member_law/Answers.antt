@@ -1,4 +1,4 @@
-use Rattle.jrewriting.proofs.JrewriteProofs.Membering.{members_stay}
+use Rattle.jrewriting.proofs.JrewriteProofs.MemberPhase.{members_stay}
 use Rattle.jrewriting.proofs.jrewrite.laws.member_law.Goals as goal
 
 pub returns : goal.returns

@@ -1,4 +1,4 @@
-use Rattle.jrewriting.proofs.JrewriteProofs.Filed.{parts_are_files}
+use Rattle.jrewriting.proofs.JrewriteProofs.ClassFileParts.{parts_are_files}
 use Rattle.jrewriting.proofs.jrewrite.laws.part_laws.Goals as goal
 
 pub returns : goal.returns

@@ -1,5 +1,5 @@
-use Rattle.jrewriting.proofs.JrewriteProofs.Standing.{extending_stays, names_stay}
-use Rattle.jrewriting.proofs.JrewriteProofs.Plainly.{is_plain}
+use Rattle.jrewriting.proofs.JrewriteProofs.HierarchyPhases.{extending_stays, names_stay}
+use Rattle.jrewriting.proofs.JrewriteProofs.PlainPrograms.{is_plain}
 use Rattle.jrewriting.proofs.jrewrite.laws.standing_laws.Goals as goal
 
 pub returns-clause-names : goal.returns-clause-names

@@ -1,5 +1,5 @@
 use Rattle.std.proofs.Common.{refl}
-use Rattle.jrewriting.proofs.JrewriteProofs.Moving.{can_move, domain_small, short_at}
+use Rattle.jrewriting.proofs.JrewriteProofs.MovableClasses.{can_move, domain_small, short_at}
 use Rattle.jrewriting.proofs.jrewrite.moved.class_of.Goals as goal
 
 pub moved_class-requires : goal.moved_class-requires

@@ -1,8 +1,8 @@
 use Rattle.std.proofs.Common.{◌≡◌, drop, map, take}
-use Rattle.jground.specs.jbase.First.{first_along}
-use Rattle.jmoveclass.specs.Limits.{class_limit}
-use Rattle.jmoveclass.specs.Moved.{moved_part}
-use Rattle.jrewriting.specs.jrewrite.Program.{at_class, limits, seen_part}
+use Rattle.jground.specs.jbase.FirstFaults.{first_along}
+use Rattle.jmoveclass.specs.ClassLimits.{class_limit}
+use Rattle.jmoveclass.specs.MovedClasses.{moved_part}
+use Rattle.jrewriting.specs.jrewrite.RewrittenPrograms.{at_class, limits, seen_part}
 use Rattle.jrewriting.proofs.jrewrite.moved.moved_parts.Given as goal
 
 abbrev pub invariant-loop-i : goal.invariant-loop-i

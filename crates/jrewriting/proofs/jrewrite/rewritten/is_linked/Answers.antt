@@ -1,8 +1,8 @@
 use Rattle.std.proofs.Common.{◌≤◌, List, length, ap, arith, subst}
 use Rattle.std.specs.List.{AllByRecursion}
 use Rattle.std.proofs.lemmas.List.{take_all}
-use Rattle.jprogram.specs.declared.part.CodePart.{CodePart}
-use Rattle.jrewriting.proofs.JrewriteProofs.Rewriting.{IsFile, file_at}
+use Rattle.jresolution.specs.declared.jprogram.part.CodePart.{CodePart}
+use Rattle.jrewriting.proofs.JrewriteProofs.MovedParts.{IsFile, file_at}
 use Rattle.jrewriting.proofs.jrewrite.rewritten.is_linked.Goals as goal
 
 pub returns : goal.returns

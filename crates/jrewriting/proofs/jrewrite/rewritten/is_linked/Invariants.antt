@@ -1,6 +1,6 @@
 use Rattle.std.proofs.Common.{take}
 use Rattle.std.specs.List.{AllByRecursion}
-use Rattle.jrewriting.proofs.JrewriteProofs.Rewriting.{IsFile}
+use Rattle.jrewriting.proofs.JrewriteProofs.MovedParts.{IsFile}
 use Rattle.jrewriting.proofs.jrewrite.rewritten.is_linked.Given as goal
 
 abbrev pub invariant-loop-part : goal.invariant-loop-part

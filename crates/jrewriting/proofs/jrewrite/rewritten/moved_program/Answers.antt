@@ -1,5 +1,5 @@
 use Rattle.std.proofs.Common.{◌∙◌}
-use Rattle.jrewriting.proofs.JrewriteProofs.Rewriting.{all_fit, links_is, program_is}
+use Rattle.jrewriting.proofs.JrewriteProofs.MovedParts.{all_fit, links_is, program_is}
 use Rattle.jrewriting.proofs.jrewrite.rewritten.moved_program.Goals as goal
 
 pub code_parts-requires : goal.code_parts-requires

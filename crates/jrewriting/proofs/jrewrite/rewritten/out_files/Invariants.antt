@@ -1,5 +1,5 @@
 use Rattle.std.proofs.Common.{◌≡◌, map, take}
-use Rattle.jrewriting.specs.jrewrite.Files.{out_file}
+use Rattle.jrewriting.specs.jrewrite.RewrittenFiles.{out_file}
 use Rattle.jrewriting.proofs.jrewrite.rewritten.out_files.Given as goal
 
 abbrev pub invariant-loop-part : goal.invariant-loop-part

@@ -1,11 +1,11 @@
 use Rattle.std.proofs.Common.{◌≡◌, ◌∙◌, None, ap, of_z, rules, sym, to_z}
 use Rattle.std.specs.Prelude.{slice_get}
 use Rattle.std.specs.Int.{w32}
-use Rattle.jmodel.specs.jstate.Seen.{store_by}
-use Rattle.jrows.specs.jacts.Accesses.{item_in}
-use Rattle.jrows.specs.jacts.Items.{array_seen}
-use Rattle.jrows.specs.jacts.Ways.{int_in}
-use Rattle.jrows.proofs.JactsProofs.Accessing.{cell_kept, has_second, load_none, load_null, load_other, load_some, load_stuck, second_there}
+use Rattle.jruntime.specs.jstate.HeapMeanings.{store_by}
+use Rattle.jrows.specs.jacts.ArrayAccesses.{item_in}
+use Rattle.jrows.specs.jacts.ArrayOperands.{array_seen}
+use Rattle.jrows.specs.jacts.RowOutcomes.{int_in}
+use Rattle.jrows.proofs.JactsProofs.ArrayLoads.{cell_kept, has_second, load_none, load_null, load_other, load_some, load_stuck, second_there}
 use Rattle.jrows.proofs.jacts.access.array_load.Goals as goal
 
 pub returns-in_default-clause-row : goal.returns-in_default-clause-row

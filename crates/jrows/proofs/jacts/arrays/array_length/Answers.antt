@@ -1,5 +1,5 @@
-use Rattle.jmodel.specs.jstate.Seen.{store_by}
-use Rattle.jrows.proofs.JactsProofs.Arraying.{length_here, length_null, length_other}
+use Rattle.jruntime.specs.jstate.HeapMeanings.{store_by}
+use Rattle.jrows.proofs.JactsProofs.ArrayInstructions.{length_here, length_null, length_other}
 use Rattle.jrows.proofs.jacts.arrays.array_length.Goals as goal
 
 pub returns-in-Other-clause-row : goal.returns-in-Other-clause-row

@@ -1,11 +1,11 @@
 use Rattle.std.proofs.Common.{◌≡◌, ◌∙◌, Some, None, ap, of_z, pos, rules, sym, to_z}
 use Rattle.std.specs.Prelude.{slice_get}
 use Rattle.std.specs.Int.{w32}
-use Rattle.jheap.specs.declared.cell.Kind.TheVariants as kinds
-use Rattle.jmodel.specs.jstate.Seen.{store_by}
-use Rattle.jrows.specs.jacts.Ways.{int_in}
+use Rattle.jmemory.specs.declared.jheap.cell.Kind.TheVariants as kinds
+use Rattle.jruntime.specs.jstate.HeapMeanings.{store_by}
+use Rattle.jrows.specs.jacts.RowOutcomes.{int_in}
 use Rattle.jrows.proofs.JactsProofs.NewArrays.{made_all, made_celled, made_stays, new_negative, new_stuck, of_place}
-use Rattle.jrows.proofs.JactsProofs.Resting.{made_frames, made_heap}
+use Rattle.jrows.proofs.JactsProofs.ArrayFailures.{made_frames, made_heap}
 use Rattle.jrows.proofs.jacts.arrays.new_array.Goals as goal
 
 pub returns-in_default-clause-row : goal.returns-in_default-clause-row

@@ -1,7 +1,7 @@
 use Rattle.std.proofs.Common.{◌≡◌, ◌∙◌, ap, of_z, rules, to_z}
 use Rattle.std.specs.Int.{w16, w32}
-use Rattle.jrows.specs.jacts.Ways.{int_in}
-use Rattle.jrows.proofs.JactsProofs.Keeping.{increased_on}
+use Rattle.jrows.specs.jacts.RowOutcomes.{int_in}
+use Rattle.jrows.proofs.JactsProofs.LocalInstructions.{increased_on}
 use Rattle.jrows.proofs.jacts.locals.increment.Goals as goal
 
 pub returns-clause-row : goal.returns-clause-row

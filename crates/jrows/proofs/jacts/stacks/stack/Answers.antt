@@ -1,7 +1,7 @@
 use Rattle.std.proofs.Common.{◌≡◌, Some, None}
-use Rattle.jground.specs.jops.Shuffles.{shuffle}
-use Rattle.jrows.specs.jacts.Moves.{laid}
-use Rattle.jrows.proofs.JactsProofs.Moving.{few_go, if_moved, move_stuck, seen_four}
+use Rattle.jvalues.specs.jops.Shuffles.{shuffle}
+use Rattle.jrows.specs.jacts.StackMoves.{laid}
+use Rattle.jrows.proofs.JactsProofs.StackMoves.{few_go, if_moved, move_stuck, seen_four}
 use Rattle.jrows.proofs.jacts.stacks.stack.Goals as goal
 
 pub lay-requires-clause-few : goal.lay-requires-clause-few

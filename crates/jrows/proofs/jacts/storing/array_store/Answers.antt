@@ -1,16 +1,16 @@
 use Rattle.std.proofs.Common.{◌≡◌, None, of_z, rules, to_z}
 use Rattle.std.specs.Prelude.{length, slice_get}
 use Rattle.std.specs.Int.{w32}
-use Rattle.jparts.specs.jcode.Forms.{element}
-use Rattle.jheap.specs.Heaps.{cells_at}
-use Rattle.jmodel.specs.jmachine.Arrays.{within}
-use Rattle.jmodel.specs.jmachine.Narrowing.{place}
-use Rattle.jrows.specs.jacts.Accesses.{kept_if}
-use Rattle.jrows.specs.jacts.Items.{array_seen}
-use Rattle.jrows.specs.jacts.Ways.{int_in}
-use Rattle.jrows.proofs.JactsProofs.Accessing.{kept_array, second_there}
-use Rattle.jrows.proofs.JactsProofs.Puts.{has_third, is_third, put_celled, put_row, put_stays, store_no_index, store_no_value, store_null, store_other}
-use Rattle.jrows.proofs.JactsProofs.Resting.{put}
+use Rattle.jparts.specs.jcode.InstructionForms.{element}
+use Rattle.jmemory.specs.jheap.Heaps.{cells_at}
+use Rattle.jsemantics.specs.jmachine.ArrayInstructions.{within}
+use Rattle.jsemantics.specs.jmachine.Narrowing.{place}
+use Rattle.jrows.specs.jacts.ArrayAccesses.{kept_if}
+use Rattle.jrows.specs.jacts.ArrayOperands.{array_seen}
+use Rattle.jrows.specs.jacts.RowOutcomes.{int_in}
+use Rattle.jrows.proofs.JactsProofs.ArrayLoads.{kept_array, second_there}
+use Rattle.jrows.proofs.JactsProofs.NumberStores.{has_third, is_third, put_celled, put_row, put_stays, store_no_index, store_no_value, store_null, store_other}
+use Rattle.jrows.proofs.JactsProofs.ArrayFailures.{put}
 use Rattle.jrows.proofs.jacts.storing.array_store.Goals as goal
 
 pub returns-in_default-clause-row : goal.returns-in_default-clause-row

@@ -1,8 +1,8 @@
 use Rattle.std.proofs.Common.{◌∙◌, Some, ap}
-use Rattle.jmodel.specs.jmachine.Narrowing.{narrowed}
-use Rattle.jmeaning.specs.declared.juses.types.ElementRef.{ElementRef}
-use Rattle.jmeaning.specs.juses.Types.{element_named}
-use Rattle.jrows.proofs.JactsProofs.Puts.{held_said}
+use Rattle.jsemantics.specs.jmachine.Narrowing.{narrowed}
+use Rattle.jresolution.specs.declared.juses.types.ElementRef.{ElementRef}
+use Rattle.jresolution.specs.juses.InternedTypes.{element_named}
+use Rattle.jrows.proofs.JactsProofs.NumberStores.{held_said}
 use Rattle.jrows.proofs.jacts.storing.held_in.Goals as goal
 
 pub returns-in-Some : goal.returns-in-Some

@@ -1,4 +1,4 @@
-use Rattle.jrows.proofs.JactsProofs.Computing.{two_done}
+use Rattle.jrows.proofs.JactsProofs.OperandInstructions.{two_done}
 use Rattle.jrows.proofs.jacts.straight.compute_two.Goals as goal
 
 pub returns-in-Some-clause-row : goal.returns-in-Some-clause-row

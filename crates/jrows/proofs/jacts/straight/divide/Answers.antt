@@ -1,4 +1,4 @@
-use Rattle.jrows.proofs.JactsProofs.Computing.{divided}
+use Rattle.jrows.proofs.JactsProofs.OperandInstructions.{divided}
 use Rattle.jrows.proofs.jacts.straight.divide.Goals as goal
 
 pub returns-in-Some-Ok-clause-row : goal.returns-in-Some-Ok-clause-row

@@ -1,10 +1,10 @@
 use Rattle.std.proofs.Common.{◌≡◌, [], ◌∷◌, of_z, rules, to_z}
 use Rattle.std.specs.Int.{w32, w64}
-use Rattle.jground.specs.declared.jops.value.Value.TheVariants.{Int, Long}
-use Rattle.jmodel.specs.jmachine.Frames.{onward}
-use Rattle.jrows.proofs.JactsProofs.Computing.{int_done, long_done}
+use Rattle.jvalues.specs.declared.jops.value.Value.TheVariants.{Int, Long}
+use Rattle.jsemantics.specs.jmachine.FrameOperations.{onward}
+use Rattle.jrows.proofs.JactsProofs.OperandInstructions.{int_done, long_done}
 use Rattle.jrows.proofs.JactsProofs.Costs.{if_went}
-use Rattle.jmeaning.specs.juses.Instructions.{Simple}
+use Rattle.jresolution.specs.juses.IndexedInstructions.{Simple}
 use Rattle.jrows.proofs.jacts.straight.simple.Goals as goal
 
 pub returns-in-Int-clause-row : goal.returns-in-Int-clause-row

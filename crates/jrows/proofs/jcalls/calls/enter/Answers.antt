@@ -1,4 +1,4 @@
-use Rattle.jrows.proofs.JcallsProofs.Entering.{codeless}
+use Rattle.jrows.proofs.JcallsProofs.MethodEntry.{codeless}
 use Rattle.jrows.proofs.jcalls.calls.enter.Goals as goal
 
 pub returns-then-not-callee-clause-row : goal.returns-then-not-callee-clause-row

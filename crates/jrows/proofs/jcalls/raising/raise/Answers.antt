@@ -1,4 +1,4 @@
-use Rattle.jrows.proofs.JcallsProofs.Throwing.{all_raised, full_so, holds_on, made_built, made_celled, made_heap, none_built, none_celled, none_heap, none_made, one_made}
+use Rattle.jrows.proofs.JcallsProofs.ThrownExceptions.{all_raised, full_so, holds_on, made_built, made_celled, made_heap, none_built, none_celled, none_heap, none_made, one_made}
 use Rattle.jrows.proofs.jcalls.raising.raise.Goals as goal
 
 pub returns-in_default-clause-row : goal.returns-in_default-clause-row

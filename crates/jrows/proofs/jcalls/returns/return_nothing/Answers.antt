@@ -1,4 +1,4 @@
-use Rattle.jrows.proofs.JcallsProofs.Returning.{all_nothing}
+use Rattle.jrows.proofs.JcallsProofs.MethodReturns.{all_nothing}
 use Rattle.jrows.proofs.jcalls.returns.return_nothing.Goals as goal
 
 pub returns-clause-row : goal.returns-clause-row

@@ -1,6 +1,6 @@
 use Rattle.std.proofs.Common.{◌≡◌, ◌<◌, true, false, length, rules}
-use Rattle.jground.specs.jops.Kinds.{is_of}
-use Rattle.jrows.proofs.JcallsProofs.Returning.{all_number, number_other, number_short}
+use Rattle.jvalues.specs.jops.ValueKinds.{is_of}
+use Rattle.jrows.proofs.JcallsProofs.MethodReturns.{all_number, number_other, number_short}
 use Rattle.jrows.proofs.jcalls.returns.return_number.Goals as goal
 
 pub returns-then-count-lt1-clause-row : goal.returns-then-count-lt1-clause-row

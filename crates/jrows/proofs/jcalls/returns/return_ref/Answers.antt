@@ -1,7 +1,7 @@
 use Rattle.std.proofs.Common.{◌≡◌, ◌<◌, true, false, length, rules}
 use Rattle.jrows.specs.jcalls.Readiness.{AreCounted, is_reference}
-use Rattle.jmodel.specs.jstate.Seen.{Things}
-use Rattle.jrows.proofs.JcallsProofs.Returning.{all_references, reference_other, reference_short}
+use Rattle.jruntime.specs.jstate.HeapMeanings.{Things}
+use Rattle.jrows.proofs.JcallsProofs.MethodReturns.{all_references, reference_other, reference_short}
 use Rattle.jrows.proofs.jcalls.returns.return_ref.Goals as goal
 
 pub returns-then-count-lt1-clause-row : goal.returns-then-count-lt1-clause-row

@@ -1,5 +1,5 @@
 use Rattle.std.proofs.Common.{◌<◌, ◌^◌, rules}
-use Rattle.jrows.proofs.JcallsProofs.Told.{made_thrown, one_made, thrown_built}
+use Rattle.jrows.proofs.JcallsProofs.ExceptionMessages.{made_thrown, one_made, thrown_built}
 use Rattle.jrows.proofs.jcalls.telling.make_thrown.Goals as goal
 
 pub returns-clause-made : goal.returns-clause-made

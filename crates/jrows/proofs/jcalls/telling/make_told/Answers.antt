@@ -1,6 +1,6 @@
 use Rattle.std.proofs.Common.{◌≤◌, rules}
-use Rattle.jrows.specs.jcalls.Telling.{told_cells}
-use Rattle.jrows.proofs.JcallsProofs.Told.{told_so}
+use Rattle.jrows.specs.jcalls.MessageThrows.{told_cells}
+use Rattle.jrows.proofs.JcallsProofs.ExceptionMessages.{told_so}
 use Rattle.jrows.proofs.jcalls.telling.make_told.Goals as goal
 
 pub returns-clause-made : goal.returns-clause-made

@@ -1,4 +1,4 @@
-use Rattle.jrows.proofs.JcallsProofs.Told.{full_with, one_with, tells_heap}
+use Rattle.jrows.proofs.JcallsProofs.ExceptionMessages.{full_with, one_with, tells_heap}
 use Rattle.jrows.proofs.jcalls.telling.raise_with.Goals as goal
 
 pub returns-in_default-clause-row : goal.returns-in_default-clause-row

@@ -1,6 +1,6 @@
 use Rattle.std.proofs.Common.{◌≡◌, Some, None, [], rules}
-use Rattle.jmodel.specs.jstate.Framed.{framed}
-use Rattle.jrows.proofs.JcallsProofs.Settling.{goes_on, none_handles, one_handles, stands_below, stands_same}
+use Rattle.jruntime.specs.jstate.FrameLists.{framed}
+use Rattle.jrows.proofs.JcallsProofs.UnwoundFrames.{goes_on, none_handles, one_handles, stands_below, stands_same}
 use Rattle.jrows.proofs.jcalls.unwinding.settle.Goals as goal
 
 pub returns-in-Some-clause-row : goal.returns-in-Some-clause-row

@@ -1,7 +1,7 @@
 use Rattle.std.proofs.Common.{ℕ, length}
-use Rattle.jmodel.specs.jstate.Framed.{all}
-use Rattle.jrows.specs.jcalls.Marks.{Stand}
-use Rattle.jrows.proofs.JcallsProofs.Settling.{Reaches}
+use Rattle.jruntime.specs.jstate.FrameLists.{all}
+use Rattle.jrows.specs.jcalls.FrameMarks.{Stand}
+use Rattle.jrows.proofs.JcallsProofs.UnwoundFrames.{Reaches}
 use Rattle.jrows.proofs.jcalls.unwinding.settle.Given as goal
 
 abbrev pub invariant-loop-to : goal.invariant-loop-to

@@ -1,6 +1,6 @@
 use Rattle.std.proofs.Common.{Some, length}
-use Rattle.jrows.proofs.JcallsProofs.Settling.{settled_with, unwound_some}
-use Rattle.jrows.proofs.JcallsProofs.Standing.{handled_stands, unhandled_stands}
+use Rattle.jrows.proofs.JcallsProofs.UnwoundFrames.{settled_with, unwound_some}
+use Rattle.jrows.proofs.JcallsProofs.FrameStability.{handled_stands, unhandled_stands}
 use Rattle.jrows.proofs.jcalls.unwinding.unwind.Goals as goal
 
 pub handle-requires : goal.handle-requires

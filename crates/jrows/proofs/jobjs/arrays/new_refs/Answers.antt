@@ -1,14 +1,14 @@
 use Rattle.std.proofs.Common.{◌≡◌, ◌∙◌, Some, None, ap, of_z, pos, rules, sym, to_z}
 use Rattle.std.specs.Prelude.{slice_get}
 use Rattle.std.specs.Int.{w32}
-use Rattle.jmeaning.specs.juses.Types.{array_named}
-use Rattle.jmodel.specs.jstate.Seen.{array_at, store_by}
-use Rattle.jrows.specs.jacts.Ways.{int_in}
-use Rattle.jrows.proofs.JactsProofs.Jumping.{has_one}
+use Rattle.jresolution.specs.juses.InternedTypes.{array_named}
+use Rattle.jruntime.specs.jstate.HeapMeanings.{array_at, store_by}
+use Rattle.jrows.specs.jacts.RowOutcomes.{int_in}
+use Rattle.jrows.proofs.JactsProofs.JumpRows.{has_one}
 use Rattle.jrows.proofs.JactsProofs.NewArrays.{made_celled, made_stays, of_place}
-use Rattle.jrows.proofs.JobjsProofs.Refs.{all_refs, refs_negative, refs_stuck}
-use Rattle.jheap.specs.declared.cell.Kind.TheVariants as kinds
-use Rattle.jrows.proofs.JactsProofs.Resting.{made_frames, made_heap}
+use Rattle.jrows.proofs.JobjsProofs.ReferenceArrays.{all_refs, refs_negative, refs_stuck}
+use Rattle.jmemory.specs.declared.jheap.cell.Kind.TheVariants as kinds
+use Rattle.jrows.proofs.JactsProofs.ArrayFailures.{made_frames, made_heap}
 use Rattle.jrows.proofs.jobjs.arrays.new_refs.Goals as goal
 
 pub returns-in_default-clause-row : goal.returns-in_default-clause-row

@@ -1,6 +1,6 @@
 use Rattle.std.proofs.Common.{◌≡◌, None, rules}
 use Rattle.std.specs.Prelude.{slice_get, true, false}
-use Rattle.jrows.specs.jobjs.Branching.{null_test, ref_in}
+use Rattle.jrows.specs.jobjs.ReferenceBranches.{null_test, ref_in}
 use Rattle.jrows.proofs.JobjsProofs.Branches.{has_one, null_done, null_none, test_not}
 use Rattle.jrows.proofs.jobjs.branching.if_null.Goals as goal
 

@@ -1,6 +1,6 @@
 use Rattle.std.proofs.Common.{◌≡◌, None, rules}
 use Rattle.std.specs.Prelude.{slice_get, true, false}
-use Rattle.jrows.specs.jobjs.Branching.{ref_in, same_test}
+use Rattle.jrows.specs.jobjs.ReferenceBranches.{ref_in, same_test}
 use Rattle.jrows.proofs.JobjsProofs.Branches.{has_two, same_alone, same_done, same_none, test_not}
 use Rattle.jrows.proofs.jobjs.branching.if_same.Goals as goal
 

@@ -1,6 +1,6 @@
 use Rattle.std.proofs.Common.{◌≡◌, rules}
 use Rattle.std.specs.Prelude.{true, false}
-use Rattle.jrows.proofs.JobjsProofs.Casting.{cast_done, cast_fails, cast_none, cast_not, cast_null}
+use Rattle.jrows.proofs.JobjsProofs.TypeCasts.{cast_done, cast_fails, cast_none, cast_not, cast_null}
 use Rattle.jrows.proofs.jobjs.casts.check_cast.Goals as goal
 
 pub returns-then-not-serve-clause-row : goal.returns-then-not-serve-clause-row

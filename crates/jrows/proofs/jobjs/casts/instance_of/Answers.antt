@@ -1,6 +1,6 @@
 use Rattle.std.proofs.Common.{◌≡◌, rules}
 use Rattle.std.specs.Prelude.{true, false}
-use Rattle.jrows.proofs.JobjsProofs.Testing.{named_front, null_front, test_done, test_none, test_not, test_null}
+use Rattle.jrows.proofs.JobjsProofs.InstanceTests.{named_front, null_front, test_done, test_none, test_not, test_null}
 use Rattle.jrows.proofs.jobjs.casts.instance_of.Goals as goal
 
 pub returns-then-not-serve-clause-row : goal.returns-then-not-serve-clause-row

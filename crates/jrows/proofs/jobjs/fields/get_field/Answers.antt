@@ -1,7 +1,7 @@
 use Rattle.std.proofs.Common.{◌≡◌, rules}
 use Rattle.std.specs.Prelude.{true, false}
-use Rattle.jrows.proofs.JobjsProofs.Getting.{get_none, get_not, get_null, get_other, get_some}
-use Rattle.jrows.proofs.JobjsProofs.Served.{has_target, target_there}
+use Rattle.jrows.proofs.JobjsProofs.FieldReads.{get_none, get_not, get_null, get_other, get_some}
+use Rattle.jrows.proofs.JobjsProofs.ServedOperands.{has_target, target_there}
 use Rattle.jrows.proofs.jobjs.fields.get_field.Goals as goal
 
 pub slot_at-requires : goal.slot_at-requires

@@ -1,10 +1,10 @@
 use Rattle.std.proofs.Common.{◌≡◌, ◌<◌, ◌≤◌, rules}
 use Rattle.std.specs.Prelude.{true, false, length}
 use Rattle.std.proofs.lemmas.Option.{slice_get_past}
-use Rattle.jheap.specs.Heaps.{cells_at}
-use Rattle.jheap.specs.Raw.{raw}
-use Rattle.jmodel.specs.jstate.Numbers.{library_count}
-use Rattle.jrows.proofs.JobjsProofs.Putting.{put_inside, put_low, put_not, put_null, put_other, put_outside, put_stays, two_there}
+use Rattle.jmemory.specs.jheap.Heaps.{cells_at}
+use Rattle.jmemory.specs.jheap.RawValues.{raw}
+use Rattle.jruntime.specs.jstate.ClassNumbers.{library_count}
+use Rattle.jrows.proofs.JobjsProofs.FieldWrites.{put_inside, put_low, put_not, put_null, put_other, put_outside, put_stays, two_there}
 use Rattle.jrows.proofs.jobjs.fields.put_field.Goals as goal
 
 pub returns-then-not-serve-clause-row : goal.returns-then-not-serve-clause-row

@@ -1,6 +1,6 @@
-use Rattle.jrows.proofs.JobjsProofs.News.{library_celled, library_row, new_stays}
-use Rattle.jheap.specs.declared.cell.Kind.TheVariants as kinds
-use Rattle.jrows.proofs.JobjsProofs.Resting.{new_frames, new_heap}
+use Rattle.jrows.proofs.JobjsProofs.NewObjects.{library_celled, library_row, new_stays}
+use Rattle.jmemory.specs.declared.jheap.cell.Kind.TheVariants as kinds
+use Rattle.jrows.proofs.JobjsProofs.ObjectFailures.{new_frames, new_heap}
 use Rattle.jrows.proofs.jobjs.making.new_library.Goals as goal
 
 pub returns-clause-row : goal.returns-clause-row

@@ -1,8 +1,8 @@
 use Rattle.std.proofs.Common.{◌+◌}
-use Rattle.jrows.proofs.JobjsProofs.News.{new_stays, user_celled, user_none, user_row}
-use Rattle.jmodel.specs.jstate.Seen.{store_by}
-use Rattle.jheap.specs.declared.cell.Kind.TheVariants as kinds
-use Rattle.jrows.proofs.JobjsProofs.Resting.{new_frames, new_heap}
+use Rattle.jrows.proofs.JobjsProofs.NewObjects.{new_stays, user_celled, user_none, user_row}
+use Rattle.jruntime.specs.jstate.HeapMeanings.{store_by}
+use Rattle.jmemory.specs.declared.jheap.cell.Kind.TheVariants as kinds
+use Rattle.jrows.proofs.JobjsProofs.ObjectFailures.{new_frames, new_heap}
 use Rattle.jrows.proofs.jobjs.making.new_object.Goals as goal
 
 pub returns-in-None-clause-row : goal.returns-in-None-clause-row

@@ -1,12 +1,12 @@
 use Rattle.std.proofs.Common.{◌≡◌, None, arith, of_z, rules, to_z}
 use Rattle.std.specs.Prelude.{length, slice_get, true, false}
 use Rattle.std.specs.Int.{w32}
-use Rattle.jheap.specs.Heaps.{cells_at}
-use Rattle.jmodel.specs.jmachine.Arrays.{within}
-use Rattle.jmodel.specs.jmachine.Narrowing.{place}
-use Rattle.jrows.specs.jacts.Ways.{int_in}
+use Rattle.jmemory.specs.jheap.Heaps.{cells_at}
+use Rattle.jsemantics.specs.jmachine.ArrayInstructions.{within}
+use Rattle.jsemantics.specs.jmachine.Narrowing.{place}
+use Rattle.jrows.specs.jacts.RowOutcomes.{int_in}
 use Rattle.jrows.proofs.JobjsProofs.RefStores.{row_there, store_no_index, store_not, store_null, store_other, store_row, stored_celled, stored_stays, three_there}
-use Rattle.jrows.proofs.JobjsProofs.Resting.{stored}
+use Rattle.jrows.proofs.JobjsProofs.ObjectFailures.{stored}
 use Rattle.jrows.proofs.jobjs.storing.store_ref.Goals as goal
 
 pub returns-then-not-serve-clause-row : goal.returns-then-not-serve-clause-row

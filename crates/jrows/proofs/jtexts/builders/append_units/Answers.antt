@@ -1,5 +1,5 @@
 use Rattle.std.proofs.Common.{ℕ, arith}
-use Rattle.jrows.proofs.JtextsProofs.Appending.{append_stays, cell_there, named_celled, piece_there, row_full, row_some}
+use Rattle.jrows.proofs.JtextsProofs.BuilderAppends.{append_stays, cell_there, named_celled, piece_there, row_full, row_some}
 use Rattle.jrows.proofs.jtexts.builders.append_units.Goals as goal
 
 pub name_piece-requires-clause-cell : goal.name_piece-requires-clause-cell

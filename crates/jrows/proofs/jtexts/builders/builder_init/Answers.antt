@@ -1,4 +1,4 @@
-use Rattle.jrows.proofs.JtextsProofs.Appending.{emptied, emptied_stays, written_celled}
+use Rattle.jrows.proofs.JtextsProofs.BuilderAppends.{emptied, emptied_stays, written_celled}
 use Rattle.jrows.proofs.JtextsProofs.BuilderRows.{init_stuck}
 use Rattle.jrows.proofs.jtexts.builders.builder_init.Goals as goal
 

@@ -1,5 +1,5 @@
 use Rattle.std.proofs.Common.{sym}
-use Rattle.jmodel.specs.jstate.Seen.{store_by}
+use Rattle.jruntime.specs.jstate.HeapMeanings.{store_by}
 use Rattle.jrows.proofs.JtextsProofs.BuilderRows.{text_null}
 use Rattle.jrows.proofs.jtexts.builders.builder_of_text.Goals as goal
 

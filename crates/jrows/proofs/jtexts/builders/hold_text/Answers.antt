@@ -1,6 +1,6 @@
 use Rattle.std.proofs.Common.{◌∙◌, ◌++◌, ap}
-use Rattle.jheap.specs.Heaps.{cells_at}
-use Rattle.jmodel.specs.jstate.Seen.{units_of}
+use Rattle.jmemory.specs.jheap.Heaps.{cells_at}
+use Rattle.jruntime.specs.jstate.HeapMeanings.{units_of}
 use Rattle.jrows.proofs.JtextsProofs.BuilderRows.{itself, text_all, text_other, text_stuck}
 use Rattle.jrows.proofs.jtexts.builders.hold_text.Goals as goal
 

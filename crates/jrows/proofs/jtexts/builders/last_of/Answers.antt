@@ -1,5 +1,5 @@
-use Rattle.jground.specs.declared.jops.value.Value.TheVariants.{Ref}
-use Rattle.jrows.proofs.JtextsProofs.Appending.{last_there, stands}
+use Rattle.jvalues.specs.declared.jops.value.Value.TheVariants.{Ref}
+use Rattle.jrows.proofs.JtextsProofs.BuilderAppends.{last_there, stands}
 use Rattle.jrows.proofs.JtextsProofs.BuilderRows.{builder_there}
 use Rattle.jrows.proofs.jtexts.builders.last_of.Goals as goal
 

@@ -1,4 +1,4 @@
-use Rattle.jrows.proofs.JtextsProofs.Appending.{cells_stay}
+use Rattle.jrows.proofs.JtextsProofs.BuilderAppends.{cells_stay}
 use Rattle.jrows.proofs.jtexts.builders.name_piece.Goals as goal
 
 pub set_cell-requires : goal.set_cell-requires

@@ -1,5 +1,5 @@
 use Rattle.std.specs.Prelude.{reverse}
-use Rattle.jrows.proofs.JtextsProofs.Gathering.{Gathers, steps_left}
+use Rattle.jrows.proofs.JtextsProofs.BuilderPieces.{Gathers, steps_left}
 use Rattle.jrows.proofs.jtexts.builders.pieces_of.Given as goal
 
 abbrev pub invariant-loop-next : goal.invariant-loop-next

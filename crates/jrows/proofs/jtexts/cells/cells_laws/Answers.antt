@@ -1,4 +1,4 @@
-use Rattle.jrows.proofs.JtextsProofs.Celling.{last_follows, tell_follows, told_follows}
+use Rattle.jrows.proofs.JtextsProofs.CallCells.{last_follows, tell_follows, told_follows}
 use Rattle.jrows.proofs.jtexts.cells.cells_laws.Goals as goal
 
 pub returns-clause-last : goal.returns-clause-last

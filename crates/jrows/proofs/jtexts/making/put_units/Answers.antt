@@ -1,4 +1,4 @@
-use Rattle.jrows.proofs.JtextsProofs.Writing.{put_done, units_celled, units_stay}
+use Rattle.jrows.proofs.JtextsProofs.TextWrites.{put_done, units_celled, units_stay}
 use Rattle.jrows.proofs.jtexts.making.put_units.Goals as goal
 
 pub returns-in-Some-clause-puts : goal.returns-in-Some-clause-puts

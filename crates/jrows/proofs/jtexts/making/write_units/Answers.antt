@@ -1,7 +1,7 @@
 use Rattle.std.proofs.Common.{◌+◌, ◌∙◌, ap, arith, drop, length, sym}
-use Rattle.jheap.specs.Heaps.{Heaped, cells_at}
+use Rattle.jmemory.specs.jheap.Heaps.{Heaped, cells_at}
 use Rattle.jrows.specs.jtexts.HeapTexts.{written}
-use Rattle.jrows.proofs.JtextsProofs.Writing.{as_many, written_next}
+use Rattle.jrows.proofs.JtextsProofs.TextWrites.{as_many, written_next}
 use Rattle.jrows.proofs.jtexts.making.write_units.Goals as goal
 
 pub loop-unit-preserved : goal.loop-unit-preserved

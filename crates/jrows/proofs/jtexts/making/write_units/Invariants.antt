@@ -1,5 +1,5 @@
 use Rattle.std.proofs.Common.{◌≡◌, drop, length}
-use Rattle.jheap.specs.Heaps.{cells_at}
+use Rattle.jmemory.specs.jheap.Heaps.{cells_at}
 use Rattle.jrows.specs.jtexts.HeapTexts.{written}
 use Rattle.jrows.proofs.jtexts.making.write_units.Given as goal
 

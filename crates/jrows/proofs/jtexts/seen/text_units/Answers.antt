@@ -1,7 +1,7 @@
 use Rattle.std.proofs.Common.{◌≡◌, ◌∙◌, ℕ, List, ◌++◌, Some, ap, sym}
-use Rattle.jheap.specs.Heaps.{cells_at}
-use Rattle.jmodel.specs.jstate.Seen.{units_of}
-use Rattle.jrows.proofs.JtextsProofs.Reading.{is_no_text, is_text, sees_units}
+use Rattle.jmemory.specs.jheap.Heaps.{cells_at}
+use Rattle.jruntime.specs.jstate.HeapMeanings.{units_of}
+use Rattle.jrows.proofs.JtextsProofs.TextReads.{is_no_text, is_text, sees_units}
 use Rattle.jrows.proofs.jtexts.seen.text_units.Goals as goal
 
 pub returns-in_default : goal.returns-in_default

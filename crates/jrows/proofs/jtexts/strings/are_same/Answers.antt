@@ -1,5 +1,5 @@
 use Rattle.std.proofs.Common.{◌∙◌, arith, sym}
-use Rattle.jheap.specs.Heaps.{cells_at}
+use Rattle.jmemory.specs.jheap.Heaps.{cells_at}
 use Rattle.jrows.proofs.JtextsProofs.Units.{differs, same_on}
 use Rattle.jrows.proofs.jtexts.strings.are_same.Goals as goal
 

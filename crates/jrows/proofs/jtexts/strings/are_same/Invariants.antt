@@ -1,7 +1,7 @@
 use Rattle.std.proofs.Common.{◌≡◌, drop}
 use Rattle.std.specs.Str.{bytes_eq}
-use Rattle.jheap.specs.Heaps.{cells_at}
-use Rattle.jmodel.specs.jstate.Seen.{units_of}
+use Rattle.jmemory.specs.jheap.Heaps.{cells_at}
+use Rattle.jruntime.specs.jstate.HeapMeanings.{units_of}
 use Rattle.jrows.proofs.jtexts.strings.are_same.Given as goal
 
 abbrev pub invariant-loop-i : goal.invariant-loop-i

@@ -1,6 +1,6 @@
 use Rattle.std.proofs.Common.{◌∙◌, ◌++◌, ap, refl}
-use Rattle.jheap.specs.Heaps.{cells_at}
-use Rattle.jmodel.specs.jstate.Seen.{store_by, units_of}
+use Rattle.jmemory.specs.jheap.Heaps.{cells_at}
+use Rattle.jruntime.specs.jstate.HeapMeanings.{store_by, units_of}
 use Rattle.jrows.proofs.JtextsProofs.StringRows.{concat_all, concat_null, concat_other, concat_stuck}
 use Rattle.jrows.proofs.jtexts.strings.concat.Goals as goal
 

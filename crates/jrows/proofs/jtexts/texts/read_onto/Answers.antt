@@ -1,5 +1,5 @@
 use Rattle.std.proofs.Common.{arith}
-use Rattle.jheap.specs.Heaps.{cells_at}
+use Rattle.jmemory.specs.jheap.Heaps.{cells_at}
 use Rattle.jrows.proofs.JtextsProofs.Units.{read_on}
 use Rattle.jrows.proofs.jtexts.texts.read_onto.Goals as goal
 

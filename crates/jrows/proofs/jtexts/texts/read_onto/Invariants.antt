@@ -1,6 +1,6 @@
 use Rattle.std.proofs.Common.{◌≡◌, ◌++◌, drop}
-use Rattle.jheap.specs.Heaps.{cells_at}
-use Rattle.jmodel.specs.jstate.Seen.{units_of}
+use Rattle.jmemory.specs.jheap.Heaps.{cells_at}
+use Rattle.jruntime.specs.jstate.HeapMeanings.{units_of}
 use Rattle.jrows.proofs.jtexts.texts.read_onto.Given as goal
 
 abbrev pub invariant-loop-i : goal.invariant-loop-i

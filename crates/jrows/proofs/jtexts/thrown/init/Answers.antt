@@ -1,4 +1,4 @@
-use Rattle.jrows.proofs.JtextsProofs.TellingRows.{can_tell, init_row, nothing_named}
+use Rattle.jrows.proofs.JtextsProofs.MessageRows.{can_tell, init_row, nothing_named}
 use Rattle.jrows.proofs.jtexts.thrown.init.Goals as goal
 
 pub tell-requires-clause-cell : goal.tell-requires-clause-cell

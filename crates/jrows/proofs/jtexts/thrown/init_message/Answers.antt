@@ -1,4 +1,4 @@
-use Rattle.jrows.proofs.JtextsProofs.TellingRows.{can_tell, message_row, no_object, no_text}
+use Rattle.jrows.proofs.JtextsProofs.MessageRows.{can_tell, message_row, no_object, no_text}
 use Rattle.jrows.proofs.jtexts.thrown.init_message.Goals as goal
 
 pub tell-requires-clause-cell : goal.tell-requires-clause-cell

@@ -1,5 +1,5 @@
 use Rattle.std.proofs.Common.{◌∙◌, ◌%◌, ◌^◌, ap, sym}
-use Rattle.jheap.specs.Heaps.{cells_at}
+use Rattle.jmemory.specs.jheap.Heaps.{cells_at}
 use Rattle.jrows.proofs.JtextsProofs.ThrownRows.{first_drop, number_in}
 use Rattle.jrows.proofs.jtexts.thrown.named_at.Goals as goal
 

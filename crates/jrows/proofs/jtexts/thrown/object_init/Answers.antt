@@ -1,5 +1,5 @@
 use Rattle.std.proofs.Common.{[]}
-use Rattle.jrows.specs.jtexts.Rans.{leaves}
+use Rattle.jrows.specs.jtexts.TextCallOutcomes.{leaves}
 use Rattle.jrows.specs.declared.jtexts.ran.Ran.TheVariants as rans
 use Rattle.jrows.proofs.JtextsProofs.Costs.{at_no_cost}
 use Rattle.jrows.proofs.jtexts.thrown.object_init.Goals as goal

@@ -1,4 +1,4 @@
-use Rattle.jrows.proofs.JtextsProofs.TellingRows.{cell_there}
+use Rattle.jrows.proofs.JtextsProofs.MessageRows.{cell_there}
 use Rattle.jrows.proofs.jtexts.thrown.put_message.Goals as goal
 
 pub len-requires : goal.len-requires

@@ -1,6 +1,6 @@
 use Rattle.std.proofs.Common.{arith}
-use Rattle.jrows.proofs.JtextsProofs.Appending.{written_celled}
-use Rattle.jrows.proofs.JtextsProofs.TellingRows.{cell_told, tell_none, tell_some, tell_stays}
+use Rattle.jrows.proofs.JtextsProofs.BuilderAppends.{written_celled}
+use Rattle.jrows.proofs.JtextsProofs.MessageRows.{cell_told, tell_none, tell_some, tell_stays}
 use Rattle.jrows.proofs.jtexts.thrown.tell.Goals as goal
 
 pub put_message-requires : goal.put_message-requires

@@ -1,4 +1,4 @@
-use Rattle.jserving.proofs.JfitsProofs.Comparing.{one_fits, under_object}
+use Rattle.jserving.proofs.JfitsProofs.TypeFits.{one_fits, under_object}
 use Rattle.jserving.proofs.jfits.fitting.class_fits_soon.Goals as goal
 
 pub returns-then-are_one : goal.returns-then-are_one

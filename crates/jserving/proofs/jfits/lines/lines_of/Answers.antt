@@ -1,4 +1,4 @@
-use Rattle.jserving.proofs.JfitsProofs.Lining.{lines_more}
+use Rattle.jserving.proofs.JfitsProofs.ClassRows.{lines_more}
 use Rattle.jserving.proofs.jfits.lines.lines_of.Goals as goal
 
 pub loop-i-preserved : goal.loop-i-preserved

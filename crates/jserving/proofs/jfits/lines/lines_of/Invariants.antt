@@ -1,4 +1,4 @@
-use Rattle.jserving.specs.jfits.Lined.{AreLinesTo}
+use Rattle.jserving.specs.jfits.SubtypeTables.{AreLinesTo}
 use Rattle.jserving.proofs.jfits.lines.lines_of.Given as goal
 
 abbrev pub invariant-loop-i : goal.invariant-loop-i

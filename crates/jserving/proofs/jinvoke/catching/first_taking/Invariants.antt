@@ -1,9 +1,9 @@
 use Rattle.std.proofs.Common.{◌≡◌, drop}
 use Rattle.std.specs.List.{find}
-use Rattle.jready.specs.Handling.{row_takes}
+use Rattle.jready.specs.HandlerTables.{row_takes}
 use Rattle.jtypes.specs.declared.vtype.VType.TheVariants as types
-use Rattle.jmeaning.specs.juses.Tables.{pool_at}
-use Rattle.jmeaning.specs.juses.Types.{class_named}
+use Rattle.jresolution.specs.juses.PoolTables.{pool_at}
+use Rattle.jresolution.specs.juses.InternedTypes.{class_named}
 use Rattle.jserving.proofs.jinvoke.catching.first_taking.Given as goal
 
 abbrev pub invariant-loop-row : goal.invariant-loop-row

@@ -1,4 +1,4 @@
-use Rattle.jserving.proofs.JinvokeProofs.Stepping.{steps_at, steps_library, steps_user}
+use Rattle.jserving.proofs.JinvokeProofs.InvokeSteps.{steps_at, steps_library, steps_user}
 use Rattle.jserving.proofs.jinvoke.laws.step_laws.Goals as goal
 
 pub returns-clause-at : goal.returns-clause-at

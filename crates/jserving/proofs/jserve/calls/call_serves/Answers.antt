@@ -1,8 +1,8 @@
 use Rattle.std.proofs.Common.{ap, length}
-use Rattle.jprogram.specs.declared.member.MethodId.{MethodId}
-use Rattle.jserving.specs.jserve.Served.{serves_in}
-use Rattle.jserving.proofs.JserveProofs.Called.{init_arm, interface_served, special_served, static_served, virtual_served}
-use Rattle.jserving.proofs.JserveProofs.Few.{init_few, object_few, static_few}
+use Rattle.jresolution.specs.declared.jprogram.member.MethodId.{MethodId}
+use Rattle.jserving.specs.jserve.OperandChecks.{serves_in}
+use Rattle.jserving.proofs.JserveProofs.CallOperands.{init_arm, interface_served, special_served, static_served, virtual_served}
+use Rattle.jserving.proofs.JserveProofs.OperandCounts.{init_few, object_few, static_few}
 use Rattle.jserving.proofs.jserve.calls.call_serves.Goals as goal
 
 pub returns-in-Static-clause-serve : goal.returns-in-Static-clause-serve

@@ -1,6 +1,6 @@
 use Rattle.std.proofs.Common.{true, false, length, refl, sym, ◌∙◌}
-use Rattle.jserving.proofs.JserveProofs.Called.{init_served}
-use Rattle.jserving.proofs.JserveProofs.Few.{begins_few}
+use Rattle.jserving.proofs.JserveProofs.CallOperands.{init_served}
+use Rattle.jserving.proofs.JserveProofs.OperandCounts.{begins_few}
 use Rattle.jserving.proofs.jserve.calls.init_serves.Goals as goal
 
 pub returns-then-not-params_serve-clause-serve : goal.returns-then-not-params_serve-clause-serve

@@ -1,8 +1,8 @@
 use Rattle.std.proofs.Common.{◌&&◌, sym, ap, ◌∙◌}
 use Rattle.std.specs.Prelude.{slice_get}
-use Rattle.jground.specs.declared.jnames.kinds.Kind.TheVariants as wanted
-use Rattle.jmeaning.specs.jrule.Effects.{Of}
-use Rattle.jserving.specs.jserve.Served.{one_serves, serves_in}
+use Rattle.jvalues.specs.declared.jnames.kinds.Kind.TheVariants as wanted
+use Rattle.jtyping.specs.jrule.StackEffects.{Of}
+use Rattle.jserving.specs.jserve.OperandChecks.{one_serves, serves_in}
 use Rattle.jserving.proofs.jserve.casts.both_refs.Goals as goal
 
 pub returns-then-not-ref_at : goal.returns-then-not-ref_at

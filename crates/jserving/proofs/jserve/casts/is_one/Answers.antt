@@ -1,5 +1,5 @@
 use Rattle.std.proofs.Common.{◌<◌, length, rules}
-use Rattle.jserving.proofs.JserveProofs.Casting.{none_found, one_found}
+use Rattle.jserving.proofs.JserveProofs.ReferenceTypes.{none_found, one_found}
 use Rattle.jserving.proofs.jserve.casts.is_one.Goals as goal
 
 pub returns-then-count-lt1 : goal.returns-then-count-lt1

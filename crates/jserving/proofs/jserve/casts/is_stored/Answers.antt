@@ -1,4 +1,4 @@
-use Rattle.jserving.proofs.JserveProofs.Casting.{stored_served}
+use Rattle.jserving.proofs.JserveProofs.ReferenceTypes.{stored_served}
 use Rattle.jserving.proofs.jserve.casts.is_stored.Goals as goal
 
 pub returns : goal.returns

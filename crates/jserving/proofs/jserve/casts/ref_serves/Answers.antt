@@ -1,4 +1,4 @@
-use Rattle.jserving.proofs.JserveProofs.Casting.{cast_served}
+use Rattle.jserving.proofs.JserveProofs.ReferenceTypes.{cast_served}
 use Rattle.jserving.proofs.jserve.casts.ref_serves.Goals as goal
 
 pub returns : goal.returns

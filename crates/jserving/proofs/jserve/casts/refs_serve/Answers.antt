@@ -1,4 +1,4 @@
-use Rattle.jserving.proofs.JserveProofs.Casting.{is_null_served, non_null_served, other_served, same_served}
+use Rattle.jserving.proofs.JserveProofs.ReferenceTypes.{is_null_served, non_null_served, other_served, same_served}
 use Rattle.jserving.proofs.jserve.casts.refs_serve.Goals as goal
 
 pub returns-in-Same : goal.returns-in-Same

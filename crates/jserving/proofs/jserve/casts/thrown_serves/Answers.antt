@@ -1,4 +1,4 @@
-use Rattle.jserving.proofs.JserveProofs.Casting.{thrown_served}
+use Rattle.jserving.proofs.JserveProofs.ReferenceTypes.{thrown_served}
 use Rattle.jserving.proofs.jserve.casts.thrown_serves.Goals as goal
 
 pub returns : goal.returns

@@ -1,4 +1,4 @@
-use Rattle.jserving.proofs.JserveProofs.Fielding.{get_field_served}
+use Rattle.jserving.proofs.JserveProofs.FieldOperands.{get_field_served}
 use Rattle.jserving.proofs.jserve.fields.get_field_serves.Goals as goal
 
 pub returns : goal.returns

@@ -1,6 +1,6 @@
 use Rattle.std.proofs.Common.{true, false, refl, sym, ap, ◌∙◌}
-use Rattle.jprogram.specs.declared.member.MethodId.{MethodId}
-use Rattle.jserving.proofs.JserveProofs.Fielding.{put_field_served}
+use Rattle.jresolution.specs.declared.jprogram.member.MethodId.{MethodId}
+use Rattle.jserving.proofs.JserveProofs.FieldOperands.{put_field_served}
 use Rattle.jserving.proofs.jserve.fields.put_field_serves.Goals as goal
 
 pub returns-then-not-serves_at : goal.returns-then-not-serves_at

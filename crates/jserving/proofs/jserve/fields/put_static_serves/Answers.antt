@@ -1,4 +1,4 @@
-use Rattle.jserving.proofs.JserveProofs.Fielding.{put_static_served}
+use Rattle.jserving.proofs.JserveProofs.FieldOperands.{put_static_served}
 use Rattle.jserving.proofs.jserve.fields.put_static_serves.Goals as goal
 
 pub returns : goal.returns

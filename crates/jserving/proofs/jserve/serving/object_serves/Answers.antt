@@ -1,6 +1,6 @@
 use Rattle.std.proofs.Common.{true, false, refl, sym, ◌∙◌}
-use Rattle.jserving.specs.jserve.Served.{serves_in}
-use Rattle.jserving.proofs.JserveProofs.Wanting.{both_serve}
+use Rattle.jserving.specs.jserve.OperandChecks.{serves_in}
+use Rattle.jserving.proofs.JserveProofs.FittingOperands.{both_serve}
 use Rattle.jserving.proofs.jserve.serving.object_serves.Goals as goal
 
 pub returns-then-not-params_serve : goal.returns-then-not-params_serve

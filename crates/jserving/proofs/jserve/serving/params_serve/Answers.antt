@@ -1,6 +1,6 @@
 use Rattle.std.proofs.Common.{sym, ◌∙◌}
-use Rattle.jserving.specs.jserve.Served.{serves_in}
-use Rattle.jserving.proofs.JserveProofs.Wanting.{fails, goes_on, none_left}
+use Rattle.jserving.specs.jserve.OperandChecks.{serves_in}
+use Rattle.jserving.proofs.JserveProofs.FittingOperands.{fails, goes_on, none_left}
 use Rattle.jserving.proofs.jserve.serving.params_serve.Goals as goal
 
 pub returns-then-not-serves_at : goal.returns-then-not-serves_at

@@ -1,7 +1,7 @@
 use Rattle.std.proofs.Common.{◌≡◌, drop, map}
-use Rattle.jmeaning.specs.juses.Types.{named}
-use Rattle.jmeaning.specs.jrule.Effects.{Fits}
-use Rattle.jserving.specs.jserve.Served.{all_serve, serves_in}
+use Rattle.jresolution.specs.juses.InternedTypes.{named}
+use Rattle.jtyping.specs.jrule.StackEffects.{Fits}
+use Rattle.jserving.specs.jserve.OperandChecks.{all_serve, serves_in}
 use Rattle.jserving.proofs.jserve.serving.params_serve.Given as goal
 
 abbrev pub invariant-loop-i : goal.invariant-loop-i

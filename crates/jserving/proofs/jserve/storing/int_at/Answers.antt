@@ -1,7 +1,7 @@
 use Rattle.std.proofs.Common.{ap, ◌∙◌}
-use Rattle.jground.specs.declared.jnames.kinds.Kind.TheVariants as wanted
-use Rattle.jmeaning.specs.jrule.Effects.{Of}
-use Rattle.jserving.specs.jserve.Served.{one_serves, serves_in}
+use Rattle.jvalues.specs.declared.jnames.kinds.Kind.TheVariants as wanted
+use Rattle.jtyping.specs.jrule.StackEffects.{Of}
+use Rattle.jserving.specs.jserve.OperandChecks.{one_serves, serves_in}
 use Rattle.jserving.proofs.jserve.storing.int_at.Goals as goal
 
 pub returns : goal.returns

@@ -1,5 +1,5 @@
-use Rattle.jmodel.specs.jmachine.World.{world}
-use Rattle.jserving.proofs.JserveProofs.Stored.{may_none, may_some}
+use Rattle.jsemantics.specs.jmachine.World.{world}
+use Rattle.jserving.proofs.JserveProofs.ArrayStores.{may_none, may_some}
 use Rattle.jserving.proofs.jserve.storing.may_store.Goals as goal
 
 pub returns-in-None : goal.returns-in-None

@@ -1,7 +1,7 @@
 use Rattle.std.proofs.Common.{ap, ◌∙◌}
 use Rattle.jparts.specs.declared.jcode.names.Element.TheVariants as items
-use Rattle.jmeaning.specs.jrule.Effects.{Holds}
-use Rattle.jserving.specs.jserve.Served.{one_serves, serves_in}
+use Rattle.jtyping.specs.jrule.StackEffects.{Holds}
+use Rattle.jserving.specs.jserve.OperandChecks.{one_serves, serves_in}
 use Rattle.jserving.proofs.jserve.storing.refs_at.Goals as goal
 
 pub returns : goal.returns

@@ -1,5 +1,5 @@
 use Rattle.std.proofs.Common.{true, false, refl, sym, ◌∙◌}
-use Rattle.jserving.proofs.JserveProofs.Stored.{store_served}
+use Rattle.jserving.proofs.JserveProofs.ArrayStores.{store_served}
 use Rattle.jserving.proofs.jserve.storing.store_serves.Goals as goal
 
 pub returns-then-not-ref_at : goal.returns-then-not-ref_at

@@ -1,4 +1,4 @@
-use Rattle.jstepping.proofs.JcoreProofs.Left.{left_behind, left_machine, numbered, raised_machine, stays_on}
+use Rattle.jstepping.proofs.JcoreProofs.IntermediateMachines.{left_behind, left_machine, numbered, raised_machine, stays_on}
 use Rattle.jstepping.proofs.jcore.laws.machine_laws.Goals as goal
 
 pub returns-clause-machine : goal.returns-clause-machine

@@ -1,4 +1,4 @@
-use Rattle.jstepping.proofs.JcoreProofs.Raised.{lives_in, raises_in}
+use Rattle.jstepping.proofs.JcoreProofs.RaisedExceptions.{lives_in, raises_in}
 use Rattle.jstepping.proofs.jcore.raising.raise.Goals as goal
 
 pub settle_raised-requires-clause-machine : goal.settle_raised-requires-clause-machine

@@ -1,4 +1,4 @@
-use Rattle.jstepping.proofs.JcoreProofs.Raised.{throws_in}
+use Rattle.jstepping.proofs.JcoreProofs.RaisedExceptions.{throws_in}
 use Rattle.jstepping.proofs.jcore.raising.throw.Goals as goal
 
 pub returns-clause-thrown : goal.returns-clause-thrown

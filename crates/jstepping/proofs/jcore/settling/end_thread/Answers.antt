@@ -1,4 +1,4 @@
-use Rattle.jstepping.proofs.JcoreProofs.Ready.{ended_ready}
+use Rattle.jstepping.proofs.JcoreProofs.ReadyMachines.{ended_ready}
 use Rattle.jstepping.proofs.jcore.settling.end_thread.Goals as goal
 
 pub returns-in-Goes-clause-ready : goal.returns-in-Goes-clause-ready

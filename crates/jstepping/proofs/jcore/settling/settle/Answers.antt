@@ -1,5 +1,5 @@
-use Rattle.jstepping.proofs.JcoreProofs.Ready.{left_handled, went_ready}
-use Rattle.jstepping.proofs.JcoreProofs.Settled.{settled_ended, settled_full, settled_handled, settled_stuck, settled_uncaught, settled_went}
+use Rattle.jstepping.proofs.JcoreProofs.ReadyMachines.{left_handled, went_ready}
+use Rattle.jstepping.proofs.JcoreProofs.StepOutcomes.{settled_ended, settled_full, settled_handled, settled_stuck, settled_uncaught, settled_went}
 use Rattle.jstepping.proofs.jcore.settling.settle.Goals as goal
 
 pub settle_raised-requires-clause-stand : goal.settle_raised-requires-clause-stand

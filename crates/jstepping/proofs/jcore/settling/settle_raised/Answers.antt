@@ -1,5 +1,5 @@
-use Rattle.jstepping.proofs.JcoreProofs.Ready.{handled_ready}
-use Rattle.jstepping.proofs.JcoreProofs.Settled.{raised_full, raised_handled, raised_uncaught}
+use Rattle.jstepping.proofs.JcoreProofs.ReadyMachines.{handled_ready}
+use Rattle.jstepping.proofs.JcoreProofs.StepOutcomes.{raised_full, raised_handled, raised_uncaught}
 use Rattle.jstepping.proofs.jcore.settling.settle_raised.Goals as goal
 
 pub returns-in-Full-clause-comes : goal.returns-in-Full-clause-comes

@@ -1,5 +1,5 @@
 use Rattle.std.proofs.Common.{◌≡◌, ◌++◌, drop, map, take}
-use Rattle.jmodel.specs.ProofNames.{dotted}
+use Rattle.jsemantics.specs.ProofNames.{dotted}
 use Rattle.jstepping.proofs.jcore.telling.with_dots.Given as goal
 
 abbrev pub invariant-loop-unit : goal.invariant-loop-unit

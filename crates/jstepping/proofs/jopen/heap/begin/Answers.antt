@@ -1,10 +1,10 @@
 use Rattle.std.proofs.Common.{◌<◌, subst, refl, arith}
-use Rattle.jprogram.specs.Classes.{Program}
-use Rattle.jlinking.specs.jlink.Coded.{AreFiles}
-use Rattle.jstepping.specs.jopen.Begun.{AreStrings}
-use Rattle.jstepping.specs.jopen.Rows.{texts_of}
-use Rattle.jstepping.specs.jopen.Texts.{texts_charge}
-use Rattle.jstepping.proofs.JopenProofs.Seeing.{begins, few_for_array, few_for_texts}
+use Rattle.jresolution.specs.jprogram.ProgramClasses.{Program}
+use Rattle.jlinking.specs.jlink.ProgramFiles.{AreFiles}
+use Rattle.jstepping.specs.jopen.InitialHeaps.{AreStrings}
+use Rattle.jstepping.specs.jopen.StaticRows.{texts_of}
+use Rattle.jstepping.specs.jopen.OpeningTexts.{texts_charge}
+use Rattle.jstepping.proofs.JopenProofs.InitialHeap.{begins, few_for_array, few_for_texts}
 use Rattle.jstepping.proofs.jopen.heap.begin.Goals as goal
 
 pub returns-in_default : goal.returns-in_default

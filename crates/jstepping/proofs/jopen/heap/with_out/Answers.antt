@@ -1,5 +1,5 @@
 use Rattle.std.proofs.Common.{refl}
-use Rattle.jstepping.proofs.JopenProofs.Seeing.{out_is}
+use Rattle.jstepping.proofs.JopenProofs.InitialHeap.{out_is}
 use Rattle.jstepping.proofs.jopen.heap.with_out.Goals as goal
 
 pub returns-in-Some : goal.returns-in-Some

@@ -1,7 +1,7 @@
 use Rattle.std.proofs.Common.{subst}
-use Rattle.jprogram.specs.Classes.{Program}
-use Rattle.jstepping.specs.jopen.Begun.{Begins}
-use Rattle.jstepping.specs.jopen.Opened.{BeginsMain}
+use Rattle.jresolution.specs.jprogram.ProgramClasses.{Program}
+use Rattle.jstepping.specs.jopen.InitialHeaps.{Begins}
+use Rattle.jstepping.specs.jopen.InitialMachines.{BeginsMain}
 use Rattle.jstepping.proofs.jopen.opening.open.Goals as goal
 
 pub returns : goal.returns

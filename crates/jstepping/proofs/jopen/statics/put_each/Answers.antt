@@ -1,7 +1,7 @@
 use Rattle.std.proofs.Common.{◌≡◌, ◌-◌, ℕ, length, ap, sym, ◌∙◌, arith}
 use Rattle.std.specs.Prelude.{replicate}
-use Rattle.jstepping.specs.jopen.Rows.{row_value}
-use Rattle.jstepping.proofs.JopenProofs.Seeing.{set_begin, set_next}
+use Rattle.jstepping.specs.jopen.StaticRows.{row_value}
+use Rattle.jstepping.proofs.JopenProofs.InitialHeap.{set_begin, set_next}
 use Rattle.jstepping.proofs.jopen.statics.put_each.Goals as goal
 
 pub loop-i-init : goal.loop-i-init

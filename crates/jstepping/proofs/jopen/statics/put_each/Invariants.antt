@@ -1,6 +1,6 @@
 use Rattle.std.proofs.Common.{◌-◌, length, take}
-use Rattle.jstepping.specs.jopen.Rows.{values_of}
-use Rattle.jstepping.specs.jopen.Texts.{HasSet}
+use Rattle.jstepping.specs.jopen.StaticRows.{values_of}
+use Rattle.jstepping.specs.jopen.OpeningTexts.{HasSet}
 use Rattle.jstepping.proofs.jopen.statics.put_each.Given as goal
 
 abbrev pub invariant-loop-i : goal.invariant-loop-i

@@ -1,6 +1,6 @@
 use Rattle.std.proofs.Common.{List, ℕ, sym, subst}
-use Rattle.jstepping.specs.jopen.Texts.{HasMade}
-use Rattle.jstepping.proofs.JopenProofs.Making.{made_full, made_next, no_texts}
+use Rattle.jstepping.specs.jopen.OpeningTexts.{HasMade}
+use Rattle.jstepping.proofs.JopenProofs.StringCreation.{made_full, made_next, no_texts}
 use Rattle.jstepping.proofs.jopen.texts.make_all.Goals as goal
 
 pub loop-row-init : goal.loop-row-init

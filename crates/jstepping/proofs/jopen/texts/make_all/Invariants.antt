@@ -1,8 +1,8 @@
 use Rattle.std.proofs.Common.{take}
-use Rattle.jmodel.specs.jstate.Celled.{StayCelled}
-use Rattle.jmodel.specs.jstate.Seen.{AreBuilt}
-use Rattle.jstepping.specs.jopen.Rows.{texts_of}
-use Rattle.jstepping.specs.jopen.Texts.{HasMade}
+use Rattle.jruntime.specs.jstate.ObjectCells.{StayCelled}
+use Rattle.jruntime.specs.jstate.HeapMeanings.{AreBuilt}
+use Rattle.jstepping.specs.jopen.StaticRows.{texts_of}
+use Rattle.jstepping.specs.jopen.OpeningTexts.{HasMade}
 use Rattle.jstepping.proofs.jopen.texts.make_all.Given as goal
 
 abbrev pub invariant-loop-row : goal.invariant-loop-row

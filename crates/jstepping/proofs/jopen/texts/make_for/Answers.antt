@@ -1,12 +1,12 @@
 use Rattle.std.proofs.Common.{Bool, Some, sym, subst}
 use Rattle.jready.specs.declared.statics.First.{First}
-use Rattle.jmeaning.specs.juses.Tables.{pool_at}
-use Rattle.jlibcalls.specs.jconstants.Made.{bytes_at, units_at}
-use Rattle.jmodel.specs.declared.jstate.shapes.Shapes.{Shapes}
-use Rattle.jmodel.specs.jstate.Seen.{Things}
-use Rattle.jstepping.specs.jopen.Rows.{text_first}
-use Rattle.jstepping.specs.jopen.Texts.{MakesFor, MakesText, seen_by}
-use Rattle.jstepping.proofs.JopenProofs.Loading.{text_loads}
+use Rattle.jresolution.specs.juses.PoolTables.{pool_at}
+use Rattle.jlibcalls.specs.jconstants.StringConstants.{bytes_at, units_at}
+use Rattle.jruntime.specs.declared.jstate.shapes.Shapes.{Shapes}
+use Rattle.jruntime.specs.jstate.HeapMeanings.{Things}
+use Rattle.jstepping.specs.jopen.StaticRows.{text_first}
+use Rattle.jstepping.specs.jopen.OpeningTexts.{MakesFor, MakesText, seen_by}
+use Rattle.jstepping.proofs.JopenProofs.StringLoads.{text_loads}
 use Rattle.jstepping.proofs.jopen.texts.make_for.Goals as goal
 
 pub returns-in_ok-object-in-Text-clause-makes : goal.returns-in_ok-object-in-Text-clause-makes

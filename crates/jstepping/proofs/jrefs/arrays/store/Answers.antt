@@ -1,4 +1,4 @@
-use Rattle.jstepping.proofs.JrefsProofs.Using.{store_row}
+use Rattle.jstepping.proofs.JrefsProofs.OperandRows.{store_row}
 use Rattle.jstepping.proofs.jrefs.arrays.store.Goals as goal
 
 pub returns-clause-row : goal.returns-clause-row

@@ -1,5 +1,5 @@
 use Rattle.jparts.specs.declared.jcode.names.RefTest.TheVariants as tests
-use Rattle.jstepping.proofs.JrefsProofs.Using.{branch_as}
+use Rattle.jstepping.proofs.JrefsProofs.OperandRows.{branch_as}
 use Rattle.jstepping.proofs.jrefs.branches.branch.Goals as goal
 
 pub returns-in-Null-clause-row : goal.returns-in-Null-clause-row

@@ -1,6 +1,6 @@
 use Rattle.jparts.specs.declared.jcode.names.CastOp.TheVariants as casts
-use Rattle.jmeaning.specs.juses.Types.{named}
-use Rattle.jstepping.proofs.JrefsProofs.Using.{cast_as}
+use Rattle.jresolution.specs.juses.InternedTypes.{named}
+use Rattle.jstepping.proofs.JrefsProofs.OperandRows.{cast_as}
 use Rattle.jstepping.proofs.jrefs.casts.cast.Goals as goal
 
 pub returns-in-CheckCast-clause-row : goal.returns-in-CheckCast-clause-row

@@ -1,11 +1,11 @@
 use Rattle.std.proofs.Common.{subst, sym}
 use Rattle.jtypes.specs.declared.vtype.VType.{VType}
-use Rattle.jmeaning.specs.juses.Instructions as instructions
-use Rattle.jmeaning.specs.juses.Meanings as meanings
-use Rattle.jmeaning.specs.juses.Types.{named}
-use Rattle.jstepping.specs.jrefs.Seen.{SeenActs}
-use Rattle.jstepping.proofs.JrefsProofs.Fielding.{never_some, no_some, the_some}
-use Rattle.jstepping.proofs.JrefsProofs.Using.{none_at, type_at}
+use Rattle.jresolution.specs.juses.IndexedInstructions as instructions
+use Rattle.jresolution.specs.juses.InstructionMeanings as meanings
+use Rattle.jresolution.specs.juses.InternedTypes.{named}
+use Rattle.jstepping.specs.jrefs.RowInvariance.{SeenActs}
+use Rattle.jstepping.proofs.JrefsProofs.FieldInstructions.{never_some, no_some, the_some}
+use Rattle.jstepping.proofs.JrefsProofs.OperandRows.{none_at, type_at}
 use Rattle.jstepping.proofs.jrefs.casts.cast_named.Goals as goal
 
 pub returns-in_default-clause-row : goal.returns-in_default-clause-row

@@ -1,4 +1,4 @@
-use Rattle.jstepping.proofs.JrefsProofs.Finding.{whole}
+use Rattle.jstepping.proofs.JrefsProofs.EntryLookup.{whole}
 use Rattle.jstepping.proofs.jrefs.fields.element_of.Goals as goal
 
 pub returns-in-Whole : goal.returns-in-Whole

@@ -1,6 +1,6 @@
-use Rattle.jmeaning.specs.juses.Types.{class_named}
+use Rattle.jresolution.specs.juses.InternedTypes.{class_named}
 use Rattle.jparts.specs.declared.jcode.names.FieldOp.TheVariants as ops
-use Rattle.jstepping.proofs.JrefsProofs.Fielding.{names_at, no_some, not_row, read_row, the_some}
+use Rattle.jstepping.proofs.JrefsProofs.FieldInstructions.{names_at, no_some, not_row, read_row, the_some}
 use Rattle.jstepping.proofs.jrefs.fields.read.Goals as goal
 
 pub returns-in_default-clause-row : goal.returns-in_default-clause-row

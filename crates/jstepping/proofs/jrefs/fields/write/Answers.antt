@@ -1,6 +1,6 @@
-use Rattle.jmeaning.specs.juses.Types.{class_named, named}
+use Rattle.jresolution.specs.juses.InternedTypes.{class_named, named}
 use Rattle.jparts.specs.declared.jcode.names.FieldOp.TheVariants as ops
-use Rattle.jstepping.proofs.JrefsProofs.Fielding.{names_at, no_some, not_row, the_some, write_row}
+use Rattle.jstepping.proofs.JrefsProofs.FieldInstructions.{names_at, no_some, not_row, the_some, write_row}
 use Rattle.jstepping.proofs.jrefs.fields.write.Goals as goal
 
 pub returns-in_default-clause-row : goal.returns-in_default-clause-row

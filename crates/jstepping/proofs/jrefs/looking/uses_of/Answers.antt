@@ -1,6 +1,6 @@
 use Rattle.std.proofs.Common.{subst, ◌∙◌}
-use Rattle.jprogram.specs.Classes.{Program}
-use Rattle.jmeaning.specs.juses.Uses.{AreUses}
+use Rattle.jresolution.specs.jprogram.ProgramClasses.{Program}
+use Rattle.jresolution.specs.juses.EntryUses.{AreUses}
 use Rattle.jstepping.proofs.jrefs.looking.uses_of.Goals as goal
 
 pub returns : goal.returns

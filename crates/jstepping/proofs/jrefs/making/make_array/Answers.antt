@@ -1,5 +1,5 @@
-use Rattle.jstepping.proofs.JrefsProofs.Meaning.{on_ok}
-use Rattle.jstepping.proofs.JrefsProofs.Using.{made_array}
+use Rattle.jstepping.proofs.JrefsProofs.InstructionMeanings.{on_ok}
+use Rattle.jstepping.proofs.JrefsProofs.OperandRows.{made_array}
 use Rattle.jstepping.proofs.jrefs.making.make_array.Goals as goal
 
 pub returns-clause-row : goal.returns-clause-row

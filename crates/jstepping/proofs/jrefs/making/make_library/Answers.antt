@@ -1,6 +1,6 @@
-use Rattle.jmeaning.specs.juses.Tables.{pool_at}
-use Rattle.jstepping.proofs.JrefsProofs.Meaning.{on_ok}
-use Rattle.jstepping.proofs.JrefsProofs.Using.{made_library}
+use Rattle.jresolution.specs.juses.PoolTables.{pool_at}
+use Rattle.jstepping.proofs.JrefsProofs.InstructionMeanings.{on_ok}
+use Rattle.jstepping.proofs.JrefsProofs.OperandRows.{made_library}
 use Rattle.jstepping.proofs.jrefs.making.make_library.Goals as goal
 
 pub returns-clause-row : goal.returns-clause-row

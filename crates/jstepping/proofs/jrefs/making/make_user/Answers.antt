@@ -1,7 +1,7 @@
-use Rattle.jmeaning.specs.juses.Tables.{pool_at}
-use Rattle.jstepping.proofs.JrefsProofs.News.{few, is_part}
-use Rattle.jstepping.proofs.JrefsProofs.Meaning.{on_ok}
-use Rattle.jstepping.proofs.JrefsProofs.Using.{made_user}
+use Rattle.jresolution.specs.juses.PoolTables.{pool_at}
+use Rattle.jstepping.proofs.JrefsProofs.NewInstructions.{few, is_part}
+use Rattle.jstepping.proofs.JrefsProofs.InstructionMeanings.{on_ok}
+use Rattle.jstepping.proofs.JrefsProofs.OperandRows.{made_user}
 use Rattle.jstepping.proofs.jrefs.making.make_user.Goals as goal
 
 pub new_object-requires-clause-numbered : goal.new_object-requires-clause-numbered

@@ -1,4 +1,4 @@
-use Rattle.jstepping.proofs.JrefsProofs.Fielding.{got_by}
+use Rattle.jstepping.proofs.JrefsProofs.FieldInstructions.{got_by}
 use Rattle.jstepping.proofs.jrefs.objects.field.Goals as goal
 
 pub returns-in-GetStatic-clause-row : goal.returns-in-GetStatic-clause-row

@@ -1,15 +1,15 @@
 use Rattle.std.proofs.Common.{ap, subst}
-use Rattle.jmeaning.specs.juses.Instructions.{Used}
-use Rattle.jmeaning.specs.juses.Meanings as meanings
-use Rattle.jmeaning.specs.juses.Types.{class_named, named}
-use Rattle.jmeaning.specs.declared.juses.types.TypeRef.TheVariants as types
-use Rattle.jprogram.specs.declared.part.ClassRef.TheVariants as refs
+use Rattle.jresolution.specs.juses.IndexedInstructions.{Used}
+use Rattle.jresolution.specs.juses.InstructionMeanings as meanings
+use Rattle.jresolution.specs.juses.InternedTypes.{class_named, named}
+use Rattle.jresolution.specs.declared.juses.types.TypeRef.TheVariants as types
+use Rattle.jresolution.specs.declared.jprogram.part.ClassRef.TheVariants as refs
 use Rattle.jready.specs.declared.instr.Instr.TheVariants as instrs
 use Rattle.jready.specs.declared.instr.ObjectInstr.{ObjectInstr}
 use Rattle.jready.specs.declared.instr.ObjectInstr.TheVariants as object
-use Rattle.jstepping.specs.jrefs.References.{IsExact, IsFetched}
-use Rattle.jstepping.proofs.JrefsProofs.Meaning.{array_means, cast_missing, cast_runs, class_means, library_means, new_means, not_missing, out_means, runs_by}
-use Rattle.jstepping.proofs.JrefsProofs.Told.{array_runs, as_it, as_one, missing_as, missing_one, never_missing, out_runs, runs_all}
+use Rattle.jstepping.specs.jrefs.ReferenceRows.{IsExact, IsFetched}
+use Rattle.jstepping.proofs.JrefsProofs.InstructionMeanings.{array_means, cast_missing, cast_runs, class_means, library_means, new_means, not_missing, out_means, runs_by}
+use Rattle.jstepping.proofs.JrefsProofs.ClassInstructions.{array_runs, as_it, as_one, missing_as, missing_one, never_missing, out_runs, runs_all}
 use Rattle.jstepping.proofs.jrefs.objects.object.Goals as goal
 
 pub make_user-requires-clause-exact : goal.make_user-requires-clause-exact

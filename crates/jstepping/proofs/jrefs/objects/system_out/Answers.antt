@@ -1,4 +1,4 @@
-use Rattle.jstepping.proofs.JrefsProofs.Using.{no_get, no_put, out_got, out_put}
+use Rattle.jstepping.proofs.JrefsProofs.OperandRows.{no_get, no_put, out_got, out_put}
 use Rattle.jstepping.proofs.jrefs.objects.system_out.Goals as goal
 
 pub returns-in-GetStatic-clause-row : goal.returns-in-GetStatic-clause-row

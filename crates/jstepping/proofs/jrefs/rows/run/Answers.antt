@@ -1,4 +1,4 @@
-use Rattle.jstepping.proofs.JrefsProofs.Running.{runs, runs_alike}
+use Rattle.jstepping.proofs.JrefsProofs.RowTransfer.{runs, runs_alike}
 use Rattle.jstepping.proofs.jrefs.rows.run.Goals as goal
 
 pub returns-clause-row : goal.returns-clause-row

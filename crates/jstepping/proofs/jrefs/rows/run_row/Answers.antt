@@ -1,11 +1,11 @@
 use Rattle.std.proofs.Common.{subst}
 use Rattle.jready.specs.declared.instr.Instr.{Instr}
 use Rattle.jready.specs.declared.instr.Instr.TheVariants as instrs
-use Rattle.jready.specs.Meant.{array_instr, flow_meant}
+use Rattle.jready.specs.DecodedInstructions.{array_instr, flow_meant}
 use Rattle.jstepping.specs.declared.jrefs.looking.FieldAt.{FieldAt}
-use Rattle.jstepping.specs.jrefs.References.{IsExact, IsFetched}
-use Rattle.jstepping.proofs.JrefsProofs.Meaning.{not_missing, runs_by}
-use Rattle.jstepping.proofs.JrefsProofs.Told.{as_one, field_missing, field_runs, flow_means, missing_is, missing_one, row_as, row_means}
+use Rattle.jstepping.specs.jrefs.ReferenceRows.{IsExact, IsFetched}
+use Rattle.jstepping.proofs.JrefsProofs.InstructionMeanings.{not_missing, runs_by}
+use Rattle.jstepping.proofs.JrefsProofs.ClassInstructions.{as_one, field_missing, field_runs, flow_means, missing_is, missing_one, row_as, row_means}
 use Rattle.jstepping.proofs.jrefs.rows.run_row.Goals as goal
 
 pub returns-in-Flow-clause-row : goal.returns-in-Flow-clause-row

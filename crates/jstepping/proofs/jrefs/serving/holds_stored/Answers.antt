@@ -1,4 +1,4 @@
-use Rattle.jmodel.specs.jstate.Seen.{store_by}
+use Rattle.jruntime.specs.jstate.HeapMeanings.{store_by}
 use Rattle.jstepping.proofs.JrefsProofs.Stores.{store_is}
 use Rattle.jstepping.proofs.jrefs.serving.holds_stored.Goals as goal
 

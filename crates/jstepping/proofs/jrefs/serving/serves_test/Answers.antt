@@ -1,10 +1,10 @@
 use Rattle.std.proofs.Common.{ap, ◌∙◌}
 use Rattle.std.specs.Prelude.{is_some}
-use Rattle.jparts.specs.jcode.Forms.{compared}
-use Rattle.jmeaning.specs.jrule.Effects.{of_kinds}
-use Rattle.jmodel.specs.jmachine.Operands.{taken}
-use Rattle.jmodel.specs.jmachine.World.{World}
-use Rattle.jmodel.specs.jstate.Seen.{store_by}
+use Rattle.jparts.specs.jcode.InstructionForms.{compared}
+use Rattle.jtyping.specs.jrule.StackEffects.{of_kinds}
+use Rattle.jsemantics.specs.jmachine.TakenOperands.{taken}
+use Rattle.jsemantics.specs.jmachine.World.{World}
+use Rattle.jruntime.specs.jstate.HeapMeanings.{store_by}
 use Rattle.jstepping.proofs.JrefsProofs.Stores.{store_is}
 use Rattle.jstepping.proofs.jrefs.serving.serves_test.Goals as goal
 

@@ -1,12 +1,12 @@
 use Rattle.std.proofs.Common.{refl, false, sym, ap, subst, ◌∙◌}
 use Rattle.jparts.specs.declared.jcode.names.FieldOp.TheVariants as ops
-use Rattle.jprogram.specs.declared.member.MethodId.{MethodId}
-use Rattle.jmeaning.specs.juses.Meanings as meanings
-use Rattle.jmodel.specs.jmachine.Steps.{own_fields}
-use Rattle.jmodel.specs.jstate.Seen.{store_by}
-use Rattle.jrows.specs.jobjs.Serving.{Serve}
-use Rattle.jstepping.proofs.JrefsProofs.Fielding.{names_at}
-use Rattle.jstepping.proofs.JrefsProofs.Meets.{write_either}
+use Rattle.jresolution.specs.declared.jprogram.member.MethodId.{MethodId}
+use Rattle.jresolution.specs.juses.InstructionMeanings as meanings
+use Rattle.jsemantics.specs.jmachine.MachineSteps.{own_fields}
+use Rattle.jruntime.specs.jstate.HeapMeanings.{store_by}
+use Rattle.jrows.specs.jobjs.EntryOperands.{Serve}
+use Rattle.jstepping.proofs.JrefsProofs.FieldInstructions.{names_at}
+use Rattle.jstepping.proofs.JrefsProofs.OperandObjects.{write_either}
 use Rattle.jstepping.proofs.jrefs.serving.serves_write.Goals as goal
 
 pub returns-then-serves_by : goal.returns-then-serves_by

@@ -1,6 +1,6 @@
 use Rattle.std.proofs.Common.{◌≤◌, rules}
 use Rattle.std.specs.Prelude.{length}
-use Rattle.jstepping.proofs.JrefsProofs.Fielding.{got_static, read_past}
+use Rattle.jstepping.proofs.JrefsProofs.FieldInstructions.{got_static, read_past}
 use Rattle.jstepping.proofs.jrefs.statics.read_static.Goals as goal
 
 pub returns-then-a-static_count-clause-row : goal.returns-then-a-static_count-clause-row

@@ -1,7 +1,7 @@
 use Rattle.std.proofs.Common.{◌≤◌, rules}
 use Rattle.std.specs.Prelude.{length}
-use Rattle.jmeaning.specs.juses.Types.{named}
-use Rattle.jstepping.proofs.JrefsProofs.Fielding.{names_at, no_some, put_row, the_some, write_past}
+use Rattle.jresolution.specs.juses.InternedTypes.{named}
+use Rattle.jstepping.proofs.JrefsProofs.FieldInstructions.{names_at, no_some, put_row, the_some, write_past}
 use Rattle.jstepping.proofs.jrefs.statics.write_static.Goals as goal
 
 pub returns-in_default-clause-row : goal.returns-in_default-clause-row

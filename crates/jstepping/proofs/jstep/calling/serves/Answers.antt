@@ -1,5 +1,5 @@
 use Rattle.std.proofs.Common.{refl}
-use Rattle.jmodel.specs.jstate.Seen.{store_by}
+use Rattle.jruntime.specs.jstate.HeapMeanings.{store_by}
 use Rattle.jstepping.proofs.jstep.calling.serves.Goals as goal
 
 pub returns-clause-serve : goal.returns-clause-serve

@@ -1,9 +1,9 @@
 use Rattle.std.proofs.Common.{◌∙◌, ap, subst}
 use Rattle.std.specs.Prelude.{IfOk}
-use Rattle.jprogram.specs.declared.member.MethodId.{MethodId}
-use Rattle.jprogram.specs.Classes.{Program}
-use Rattle.jstepping.specs.jstep.Stepping.{SettlesCall}
-use Rattle.jstepping.proofs.JstepProofs.Invoked.{all_called, call_untaken}
+use Rattle.jresolution.specs.declared.jprogram.member.MethodId.{MethodId}
+use Rattle.jresolution.specs.jprogram.ProgramClasses.{Program}
+use Rattle.jstepping.specs.jstep.StepRelation.{SettlesCall}
+use Rattle.jstepping.proofs.JstepProofs.CallSteps.{all_called, call_untaken}
 use Rattle.jstepping.proofs.jstep.calling.step_call.Goals as goal
 
 pub returns-in_default-taken-clause-row : goal.returns-in_default-taken-clause-row

@@ -1,4 +1,4 @@
-use Rattle.jstepping.proofs.JstepProofs.Invoked.{none_taken, some_taken}
+use Rattle.jstepping.proofs.JstepProofs.CallSteps.{none_taken, some_taken}
 use Rattle.jstepping.proofs.jstep.calling.taken.Goals as goal
 
 pub returns-then-not-serves-clause-takes : goal.returns-then-not-serves-clause-takes

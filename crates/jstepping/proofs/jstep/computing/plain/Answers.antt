@@ -1,6 +1,6 @@
-use Rattle.jmeaning.specs.juses.Instructions.{Simple}
-use Rattle.jready.specs.Meant.{plain_meant}
-use Rattle.jstepping.proofs.JstepProofs.Numbers.{ok_meant}
+use Rattle.jresolution.specs.juses.IndexedInstructions.{Simple}
+use Rattle.jready.specs.DecodedInstructions.{plain_meant}
+use Rattle.jstepping.proofs.JstepProofs.PoolNumbers.{ok_meant}
 use Rattle.jstepping.proofs.jstep.computing.plain.Goals as goal
 
 pub returns-clause-row : goal.returns-clause-row

@@ -1,4 +1,4 @@
-use Rattle.jstepping.proofs.JstepProofs.Numbers.{number_pushed}
+use Rattle.jstepping.proofs.JstepProofs.PoolNumbers.{number_pushed}
 use Rattle.jstepping.proofs.jstep.computing.push.Goals as goal
 
 pub returns-clause-row : goal.returns-clause-row

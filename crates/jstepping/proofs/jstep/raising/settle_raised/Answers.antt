@@ -1,7 +1,7 @@
 use Rattle.std.specs.Prelude.{length}
-use Rattle.jprogram.specs.declared.part.ClassRef.TheVariants as refs
+use Rattle.jresolution.specs.declared.jprogram.part.ClassRef.TheVariants as refs
 use Rattle.jlib.specs.declared.classes.LibClass.TheVariants as lib
-use Rattle.jstepping.proofs.JstepProofs.Settled.{raises_as, stood}
+use Rattle.jstepping.proofs.JstepProofs.RowCompletion.{raises_as, stood}
 use Rattle.jstepping.proofs.jstep.raising.settle_raised.Goals as goal
 
 pub returns-clause-row : goal.returns-clause-row

@@ -1,5 +1,5 @@
 use Rattle.std.proofs.Common.{◌∙◌, length, sym}
-use Rattle.jstepping.proofs.JstepProofs.Settled.{object_thrown, stood}
+use Rattle.jstepping.proofs.JstepProofs.RowCompletion.{object_thrown, stood}
 use Rattle.jstepping.proofs.jstep.raising.settle_thrown.Goals as goal
 
 pub returns-clause-row : goal.returns-clause-row

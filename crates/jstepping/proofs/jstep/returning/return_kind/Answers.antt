@@ -1,5 +1,5 @@
 use Rattle.jparts.specs.declared.jcode.names.Returned.TheVariants as results
-use Rattle.jstepping.proofs.JstepProofs.Executed.{returns_any}
+use Rattle.jstepping.proofs.JstepProofs.InstructionSteps.{returns_any}
 use Rattle.jstepping.proofs.jstep.returning.return_kind.Goals as goal
 
 pub returns-in-Int-clause-row : goal.returns-in-Int-clause-row

@@ -1,5 +1,5 @@
 use Rattle.std.specs.Prelude.{length}
-use Rattle.jstepping.proofs.JstepProofs.Executed.{return_done, return_stood}
+use Rattle.jstepping.proofs.JstepProofs.InstructionSteps.{return_done, return_stood}
 use Rattle.jstepping.proofs.jstep.returning.step_return.Goals as goal
 
 pub returns-clause-row : goal.returns-clause-row

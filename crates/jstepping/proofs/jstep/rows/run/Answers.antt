@@ -1,4 +1,4 @@
-use Rattle.jstepping.proofs.JstepProofs.Meaning.{ok_alike, ok_stays}
+use Rattle.jstepping.proofs.JstepProofs.RowMeanings.{ok_alike, ok_stays}
 use Rattle.jstepping.proofs.jstep.rows.run.Goals as goal
 
 pub returns-clause-stays : goal.returns-clause-stays

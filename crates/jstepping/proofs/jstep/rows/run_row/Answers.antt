@@ -1,7 +1,7 @@
-use Rattle.jmeaning.specs.juses.Instructions.{Local, Stack}
-use Rattle.jready.specs.Meant.{flow_meant, lookup_meant}
+use Rattle.jresolution.specs.juses.IndexedInstructions.{Local, Stack}
+use Rattle.jready.specs.DecodedInstructions.{flow_meant, lookup_meant}
 use Rattle.jready.specs.declared.instr.Instr.TheVariants as instr
-use Rattle.jstepping.proofs.JstepProofs.Meaning.{flow_means, local_means, lookup_means, ok_runs_as, runs_array, runs_as, runs_plain, runs_push, runs_table, stack_means}
+use Rattle.jstepping.proofs.JstepProofs.RowMeanings.{flow_means, local_means, lookup_means, ok_runs_as, runs_array, runs_as, runs_plain, runs_push, runs_table, stack_means}
 use Rattle.jstepping.proofs.jstep.rows.run_row.Goals as goal
 
 pub returns-in-Plain-clause-row : goal.returns-in-Plain-clause-row

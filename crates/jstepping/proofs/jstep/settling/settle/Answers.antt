@@ -1,5 +1,5 @@
-use Rattle.jstepping.proofs.JstepProofs.Leaving.{never_stuck}
-use Rattle.jstepping.proofs.JstepProofs.Settled.{ok_settles}
+use Rattle.jstepping.proofs.JstepProofs.ObjectPreservation.{never_stuck}
+use Rattle.jstepping.proofs.JstepProofs.RowCompletion.{ok_settles}
 use Rattle.jstepping.proofs.jstep.settling.settle.Goals as goal
 
 pub thrown_class-requires : goal.thrown_class-requires

@@ -1,4 +1,4 @@
-use Rattle.jstepping.proofs.JstepProofs.Settled.{call_begun, call_runs, call_stuck, ok_call}
+use Rattle.jstepping.proofs.JstepProofs.RowCompletion.{call_begun, call_runs, call_stuck, ok_call}
 use Rattle.jstepping.proofs.jstep.settling.settle_call.Goals as goal
 
 pub thrown_class-requires : goal.thrown_class-requires

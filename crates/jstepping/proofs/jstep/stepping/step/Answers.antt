@@ -1,6 +1,6 @@
 use Rattle.jready.specs.declared.instr.Instr.TheVariants as instr
-use Rattle.jstepping.proofs.JstepProofs.Executed.{arm_steps, library_steps, off_steps, row_steps, user_steps}
-use Rattle.jstepping.proofs.JstepProofs.Leaving.{alike_by, names_alike}
+use Rattle.jstepping.proofs.JstepProofs.InstructionSteps.{arm_steps, library_steps, off_steps, row_steps, user_steps}
+use Rattle.jstepping.proofs.JstepProofs.ObjectPreservation.{alike_by, names_alike}
 use Rattle.jstepping.proofs.jstep.stepping.step.Goals as goal
 
 pub returns-in-Off-clause-row : goal.returns-in-Off-clause-row

@@ -1,9 +1,9 @@
 use Rattle.std.proofs.Common.{ap}
-use Rattle.jmeaning.specs.juses.Instructions.{Return, Throw}
+use Rattle.jresolution.specs.juses.IndexedInstructions.{Return, Throw}
 use Rattle.jready.specs.declared.instr.Instr.TheVariants as instr
-use Rattle.jready.specs.Meant.{flow_meant}
-use Rattle.jstepping.proofs.JstepProofs.Executed.{flow_done, jump_done}
-use Rattle.jstepping.proofs.JstepProofs.Leaving.{names_alike, same_alike}
+use Rattle.jready.specs.DecodedInstructions.{flow_meant}
+use Rattle.jstepping.proofs.JstepProofs.InstructionSteps.{flow_done, jump_done}
+use Rattle.jstepping.proofs.JstepProofs.ObjectPreservation.{names_alike, same_alike}
 use Rattle.jstepping.proofs.jstep.stepping.step_flow.Goals as goal
 
 pub returns-in-Jump-clause-row : goal.returns-in-Jump-clause-row

@@ -1,7 +1,7 @@
 use Rattle.std.specs.Prelude.{length}
-use Rattle.jstepping.proofs.JstepProofs.Executed.{all_done}
-use Rattle.jstepping.proofs.JstepProofs.Leaving.{celled_behind, row_alike}
-use Rattle.jstepping.proofs.JstepProofs.Settled.{may_raise, stands_for}
+use Rattle.jstepping.proofs.JstepProofs.InstructionSteps.{all_done}
+use Rattle.jstepping.proofs.JstepProofs.ObjectPreservation.{celled_behind, row_alike}
+use Rattle.jstepping.proofs.JstepProofs.RowCompletion.{may_raise, stands_for}
 use Rattle.jstepping.proofs.jstep.stepping.step_row.Goals as goal
 
 pub run-requires-clause-place : goal.run-requires-clause-place

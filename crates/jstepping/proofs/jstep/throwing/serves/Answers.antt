@@ -1,6 +1,6 @@
 use Rattle.std.proofs.Common.{[], false, refl}
-use Rattle.jmodel.specs.jmachine.World.{world}
-use Rattle.jmodel.specs.jstate.Seen.{store_by}
+use Rattle.jsemantics.specs.jmachine.World.{world}
+use Rattle.jruntime.specs.jstate.HeapMeanings.{store_by}
 use Rattle.jstepping.proofs.jstep.throwing.serves.Goals as goal
 
 pub returns : goal.returns

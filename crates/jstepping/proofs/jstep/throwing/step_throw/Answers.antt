@@ -1,7 +1,7 @@
 use Rattle.std.proofs.Common.{◌∙◌, subst, sym}
-use Rattle.jprogram.specs.Classes.{Program}
-use Rattle.jstepping.proofs.JstepProofs.Executed.{throw_no_ref, throw_null, throw_object, throw_unserved}
-use Rattle.jstepping.specs.jstep.Serving.{ServesThrown}
+use Rattle.jresolution.specs.jprogram.ProgramClasses.{Program}
+use Rattle.jstepping.proofs.JstepProofs.InstructionSteps.{throw_no_ref, throw_null, throw_object, throw_unserved}
+use Rattle.jstepping.specs.jstep.HeapOperands.{ServesThrown}
 use Rattle.jstepping.proofs.jstep.throwing.step_throw.Goals as goal
 
 pub returns-then-not-serves-clause-row : goal.returns-then-not-serves-clause-row

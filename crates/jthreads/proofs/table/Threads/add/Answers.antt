@@ -1,7 +1,7 @@
 use Rattle.std.proofs.Common.{◌≡◌, ◌++◌, ◌∷◌, [], ap, arith, length, subst, sym, ◌∙◌}
-use Rattle.jthreads.specs.Kept.{AreCounted, AreNamed, nobody}
-use Rattle.jthreads.specs.Table.{added, runnable_numbers}
-use Rattle.jthreads.proofs.Pushing.{len, push_counted, push_named, push_order}
+use Rattle.jthreads.specs.ThreadQueues.{AreCounted, AreNamed, nobody}
+use Rattle.jthreads.specs.ThreadTables.{added, runnable_numbers}
+use Rattle.jthreads.proofs.ThreadAdditions.{len, push_counted, push_named, push_order}
 use Rattle.jthreads.proofs.table.Threads.add.Goals as goal
 
 pub invariant_of-self-2 : goal.invariant_of-self-2

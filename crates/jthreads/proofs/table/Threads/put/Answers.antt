@@ -1,7 +1,7 @@
 use Rattle.std.proofs.Common.{◌<◌, ap, arith, length, sym, ◌∙◌}
 use Rattle.std.proofs.lemmas.List.{length-set}
-use Rattle.jthreads.specs.Table.{is_runnable}
-use Rattle.jthreads.proofs.Keeping.{here, less_named, less_some, put_counted, put_named, put_order, runnable_few, within}
+use Rattle.jthreads.specs.ThreadTables.{is_runnable}
+use Rattle.jthreads.proofs.ThreadUpdates.{here, less_named, less_some, put_counted, put_named, put_order, runnable_few, within}
 use Rattle.jthreads.proofs.table.Threads.put.Goals as goal
 
 pub one_less-requires-clause-some : goal.one_less-requires-clause-some

@@ -1,5 +1,5 @@
 use Rattle.std.proofs.Common.{◌<◌, ap, arith, length}
-use Rattle.jthreads.proofs.Keeping.{here, named_now}
+use Rattle.jthreads.proofs.ThreadUpdates.{here, named_now}
 use Rattle.jthreads.proofs.table.Threads.start.Goals as goal
 
 pub put-requires-clause-named : goal.put-requires-clause-named

@@ -1,8 +1,8 @@
 use Rattle.std.proofs.Common.{◌≡◌, ◌<◌, ap, arith, length, map, sym, ◌∙◌}
 use Rattle.std.proofs.lemmas.List.{get_or_default}
-use Rattle.jthreads.specs.Kept.{nobody, queue_at, waiting}
-use Rattle.jthreads.specs.Table.{woken}
-use Rattle.jthreads.proofs.Counts.{none_wait}
+use Rattle.jthreads.specs.ThreadQueues.{nobody, queue_at, waiting}
+use Rattle.jthreads.specs.ThreadTables.{woken}
+use Rattle.jthreads.proofs.WaiterCounts.{none_wait}
 use Rattle.jthreads.proofs.table.Threads.wake.Goals as goal
 
 pub returns-else-index-ne0 : goal.returns-else-index-ne0

@@ -1,5 +1,5 @@
 use Rattle.std.proofs.Common.{◌≡◌, length, map}
-use Rattle.jthreads.specs.Table.{woken}
+use Rattle.jthreads.specs.ThreadTables.{woken}
 use Rattle.jthreads.proofs.table.Threads.wake.Given as goal
 
 -- waking all of them comes to the same as before

@@ -2,8 +2,8 @@ use Rattle.std.proofs.Common.{◌<◌, ap, arith, length, subst, sym, ◌∙◌}
 use Rattle.std.specs.Prelude.{IfSome, get_or, slice_set}
 use Rattle.std.proofs.lemmas.List.{length-set}
 use Rattle.std.proofs.lemmas.List.Edits.{map_over_more}
-use Rattle.jthreads.specs.Table.{woken}
-use Rattle.jthreads.proofs.Keeping.{here, named_now}
+use Rattle.jthreads.specs.ThreadTables.{woken}
+use Rattle.jthreads.proofs.ThreadUpdates.{here, named_now}
 use Rattle.jthreads.proofs.Waits.{woken_named}
 use Rattle.jthreads.proofs.table.Threads.wake_each.Goals as goal
 

@@ -1,5 +1,5 @@
 use Rattle.std.proofs.Common.{◌≡◌, ◌++◌, drop, length, map, take}
-use Rattle.jthreads.specs.Table.{woken}
+use Rattle.jthreads.specs.ThreadTables.{woken}
 use Rattle.jthreads.proofs.table.Threads.wake_each.Given as goal
 
 -- the threads before the index are woken

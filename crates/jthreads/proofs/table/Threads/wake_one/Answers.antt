@@ -1,8 +1,8 @@
 use Rattle.std.proofs.Common.{◌<◌, ap, arith, length, map, subst, sym, ◌∙◌}
 use Rattle.std.specs.Prelude.{IfSome}
 use Rattle.std.proofs.Math.Seq.{map-set_same}
-use Rattle.jthreads.specs.Table.{thread_at, unstarted, woken}
-use Rattle.jthreads.proofs.Keeping.{here, named_now}
+use Rattle.jthreads.specs.ThreadTables.{thread_at, unstarted, woken}
+use Rattle.jthreads.proofs.ThreadUpdates.{here, named_now}
 use Rattle.jthreads.proofs.Waits.{woken_named, woken_twice}
 use Rattle.jthreads.proofs.table.Threads.wake_one.Goals as goal
 

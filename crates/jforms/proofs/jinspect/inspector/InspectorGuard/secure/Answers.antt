@@ -1,8 +1,8 @@
 use Rattle.std.proofs.Common.{refl}
-use Rattle.jrights.specs.jdomain.Domains.{has}
-use Rattle.jmodel.specs.declared.jguard.ask.Ask.TheVariants as asks
-use Rattle.jforms.proofs.JinspectProofs.Answering.{becomes, checked, checked_kept, entered, if_becomes, inherit, privileged, snapshot}
-use Rattle.jforms.proofs.JinspectProofs.Standing.{marks_below}
+use Rattle.jdomain.specs.Domains.{has}
+use Rattle.jguard.specs.declared.ask.Ask.TheVariants as asks
+use Rattle.jforms.proofs.JinspectProofs.InspectingAnswers.{becomes, checked, checked_kept, entered, if_becomes, inherit, privileged, snapshot}
+use Rattle.jforms.proofs.JinspectProofs.MarkMeanings.{marks_below}
 use Rattle.jforms.proofs.jinspect.inspector.InspectorGuard.secure.Goals as goal
 
 pub check-requires-clause-marks : goal.check-requires-clause-marks

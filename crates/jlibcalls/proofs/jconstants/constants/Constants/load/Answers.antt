@@ -1,4 +1,4 @@
-use Rattle.jlibcalls.proofs.JconstantsProofs.Running.{load_runs}
+use Rattle.jlibcalls.proofs.JconstantsProofs.ConstantLoads.{load_runs}
 use Rattle.jlibcalls.proofs.jconstants.constants.Constants.load.Goals as goal
 
 pub returns-clause-row : goal.returns-clause-row

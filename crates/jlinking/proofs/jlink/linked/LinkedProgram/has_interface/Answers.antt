@@ -1,4 +1,4 @@
-use Rattle.jlinking.proofs.JlinkProofs.Layered.{links_ordered}
+use Rattle.jlinking.proofs.JlinkProofs.PhaseOrder.{links_ordered}
 use Rattle.jlinking.proofs.jlink.linked.LinkedProgram.has_interface.Goals as goal
 
 pub implements-requires-clause-order : goal.implements-requires-clause-order

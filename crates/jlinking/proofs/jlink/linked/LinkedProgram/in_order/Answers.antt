@@ -1,4 +1,4 @@
-use Rattle.jlinking.proofs.JlinkProofs.Layered.{links_ordered}
+use Rattle.jlinking.proofs.JlinkProofs.PhaseOrder.{links_ordered}
 use Rattle.jlinking.proofs.jlink.linked.LinkedProgram.in_order.Goals as goal
 
 pub returns-clause-order : goal.returns-clause-order

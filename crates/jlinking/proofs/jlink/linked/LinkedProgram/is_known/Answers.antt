@@ -1,6 +1,6 @@
 use Rattle.std.proofs.Common.{◌∙◌, ap}
-use Rattle.jprogram.specs.Classes.{Program}
-use Rattle.jlinking.proofs.JlinkProofs.Numbered.{lib_known, lib_only, user_known, user_only}
+use Rattle.jresolution.specs.jprogram.ProgramClasses.{Program}
+use Rattle.jlinking.proofs.JlinkProofs.UserClassNumbers.{lib_known, lib_only, user_known, user_only}
 use Rattle.jlinking.proofs.jlink.linked.LinkedProgram.is_known.Goals as goal
 
 pub returns-in-User-clause-known : goal.returns-in-User-clause-known

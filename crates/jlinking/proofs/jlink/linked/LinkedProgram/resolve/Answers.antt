@@ -1,5 +1,5 @@
 use Rattle.std.proofs.Common.{sym, ◌∙◌}
-use Rattle.jlinking.proofs.JlinkProofs.There.{there_is}
+use Rattle.jlinking.proofs.JlinkProofs.ResolvedReferences.{there_is}
 use Rattle.jlinking.proofs.jlink.linked.LinkedProgram.resolve.Goals as goal
 
 pub unreachable-requires : goal.unreachable-requires

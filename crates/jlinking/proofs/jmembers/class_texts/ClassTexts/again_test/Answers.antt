@@ -1,4 +1,4 @@
-use Rattle.jlinking.proofs.JmembersProofs.Testing.{again_none, again_some}
+use Rattle.jlinking.proofs.JmembersProofs.MemberTests.{again_none, again_some}
 use Rattle.jlinking.proofs.jmembers.class_texts.ClassTexts.again_test.Goals as goal
 
 pub returns-then-branch : goal.returns-then-branch

@@ -1,4 +1,4 @@
-use Rattle.jlinking.proofs.JmembersProofs.Meeting.{met_again, met_more}
+use Rattle.jlinking.proofs.JmembersProofs.MemberSets.{met_again, met_more}
 use Rattle.jlinking.proofs.jmembers.class_texts.ClassTexts.meet.Goals as goal
 
 pub returns : goal.returns

@@ -1,9 +1,9 @@
 use Rattle.std.proofs.Common.{◌≡◌, ℕ, List, sym, subst, ap, ◌∙◌}
 use Rattle.std.specs.Prelude.{slice_get}
 use Rattle.jparts.specs.declared.jpool.entry.Entry.{Entry}
-use Rattle.jprogram.specs.Parts.{text}
-use Rattle.jlinking.specs.jmembers.Known.{number_of}
-use Rattle.jlinking.proofs.JmembersProofs.Numbering.{number_at, number_or}
+use Rattle.jresolution.specs.jprogram.ClassFileParts.{text}
+use Rattle.jlinking.specs.jmembers.PoolTexts.{number_of}
+use Rattle.jlinking.proofs.JmembersProofs.TextNumbers.{number_at, number_or}
 use Rattle.jlinking.proofs.jmembers.numbers.Numbers.at.Goals as goal
 
 pub returns-in-Some : goal.returns-in-Some

@@ -1,4 +1,4 @@
-use Rattle.jserving.proofs.JfitsProofs.Upward.{above_some}
+use Rattle.jserving.proofs.JfitsProofs.SuperclassWalks.{above_some}
 use Rattle.jserving.proofs.jfits.ancestors.Ancestors.above.Goals as goal
 
 pub returns-in-Some-above : goal.returns-in-Some-above

@@ -1,7 +1,7 @@
 use Rattle.std.proofs.Common.{subst}
-use Rattle.jprogram.specs.Classes.{Program}
-use Rattle.jserving.specs.jfits.Lined.{AreLines}
-use Rattle.jserving.proofs.JfitsProofs.Upward.{none_face}
+use Rattle.jresolution.specs.jprogram.ProgramClasses.{Program}
+use Rattle.jserving.specs.jfits.SubtypeTables.{AreLines}
+use Rattle.jserving.proofs.JfitsProofs.SuperclassWalks.{none_face}
 use Rattle.jserving.proofs.jfits.ancestors.Ancestors.is_interface.Goals as goal
 
 pub returns-in-None : goal.returns-in-None

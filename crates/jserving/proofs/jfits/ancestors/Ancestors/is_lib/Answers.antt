@@ -1,4 +1,4 @@
-use Rattle.jserving.proofs.JfitsProofs.Upward.{lib_known}
+use Rattle.jserving.proofs.JfitsProofs.SuperclassWalks.{lib_known}
 use Rattle.jserving.proofs.jfits.ancestors.Ancestors.is_lib.Goals as goal
 
 pub are_same-requires-clause-first : goal.are_same-requires-clause-first

@@ -1,4 +1,4 @@
-use Rattle.jserving.proofs.JfitsProofs.Upward.{walk_ends, walk_found, walk_goes_on, walk_over}
+use Rattle.jserving.proofs.JfitsProofs.SuperclassWalks.{walk_ends, walk_found, walk_goes_on, walk_over}
 use Rattle.jserving.proofs.jfits.ancestors.Ancestors.is_upwards.Goals as goal
 
 pub returns-then-are_same : goal.returns-then-are_same

@@ -1,8 +1,8 @@
 use Rattle.std.proofs.Common.{◌≡◌, ◌-◌, ◌+◌, length}
 use Rattle.std.specs.List.{list_any}
 use Rattle.std.specs.Str.{bytes_eq}
-use Rattle.jprogram.specs.Classes.{chain, known, name_at}
-use Rattle.jprogram.specs.Implementing.{IsNumber}
+use Rattle.jresolution.specs.jprogram.ProgramClasses.{chain, known, name_at}
+use Rattle.jresolution.specs.jprogram.ImplementedInterfaces.{IsNumber}
 use Rattle.jserving.proofs.jfits.ancestors.Ancestors.is_upwards.Given as goal
 
 abbrev pub invariant-loop-step : goal.invariant-loop-step

@@ -1,7 +1,7 @@
 use Rattle.std.proofs.Common.{◌∙◌, ap, sym}
-use Rattle.jserving.specs.jinvoke.Asked.{call_of, class_of}
-use Rattle.jserving.specs.jinvoke.Faces.{face_answer}
-use Rattle.jserving.proofs.JinvokeProofs.Facing.{one_object}
+use Rattle.jserving.specs.jinvoke.CallQueries.{call_of, class_of}
+use Rattle.jserving.specs.jinvoke.InterfaceCalls.{face_answer}
+use Rattle.jserving.proofs.JinvokeProofs.InterfaceCalls.{one_object}
 use Rattle.jserving.proofs.jinvoke.answers.Calls.by_interface.Goals as goal
 
 pub returns-in-Some-clause-target : goal.returns-in-Some-clause-target

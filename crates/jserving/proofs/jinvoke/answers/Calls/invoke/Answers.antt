@@ -1,4 +1,4 @@
-use Rattle.jserving.proofs.JinvokeProofs.Invoked.{invokes_as}
+use Rattle.jserving.proofs.JinvokeProofs.InvokeOutcomes.{invokes_as}
 use Rattle.jserving.proofs.jinvoke.answers.Calls.invoke.Goals as goal
 
 pub returns-in-Static-clause-call : goal.returns-in-Static-clause-call

@@ -1,6 +1,6 @@
 use Rattle.std.proofs.Common.{ap}
-use Rattle.jprogram.specs.declared.member.MethodId.{MethodId}
-use Rattle.jserving.proofs.JinvokeProofs.Invoked.{on_invoked}
+use Rattle.jresolution.specs.declared.jprogram.member.MethodId.{MethodId}
+use Rattle.jserving.proofs.JinvokeProofs.InvokeOutcomes.{on_invoked}
 use Rattle.jserving.proofs.jinvoke.answers.Calls.invoke_on.Goals as goal
 
 pub returns-clause-call : goal.returns-clause-call

@@ -1,8 +1,0 @@
-mod Lines
-mod Utf8s
-mod Words
-mod Blanks
-mod Saying
-mod Fine
-mod Sources
-mod Jobs

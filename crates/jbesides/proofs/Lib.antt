@@ -1,4 +1,0 @@
-pub mod JbesideProofs
-pub mod JcountProofs
-pub mod JstandsProofs
-pub mod JfollowProofs

@@ -1,4 +1,0 @@
-pub mod jbeside
-pub mod jcount
-pub mod jstands
-pub mod jfollow

@@ -1,6 +1,0 @@
-ghost use Rattle.jbesides.specs.jstands.Expanding.{FewExpanded};
-
-/// A law of what instructions become: each becomes one, two or three. It has no body to run; its contract is the law.
-pub fn expanding_law()
-    ensures { FewExpanded }
-{}

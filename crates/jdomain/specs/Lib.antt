@@ -1,0 +1,5 @@
+pub mod Domains
+pub mod GrantShares
+pub mod CodeSources
+pub mod DomainStacks
+pub mod ProofNames

@@ -1,4 +1,0 @@
-pub mod Called
-pub mod Hastening
-pub mod Opened
-pub mod Stood

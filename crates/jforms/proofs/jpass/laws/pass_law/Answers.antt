@@ -1,8 +1,0 @@
-use Rattle.jprogram.specs.Classes.{Program}
-use Rattle.jforms.proofs.JpassProofs.Passed.{pass_theorem}
-use Rattle.jforms.proofs.jpass.laws.pass_law.Goals as goal
-
-pub returns : goal.returns
-returns c =
-    pass_theorem c.beside_laws.ensures.sourced_runs c.beside_laws.ensures.sourced_steps c.beside_laws.ensures.shadowed_runs (λ (p q : Program). c.count_laws.ensures.keeps (p, q))
-    (λ (p q : Program). c.count_laws.ensures.ends (p, q)) c.follow_law.ensures c.opening_law.ensures

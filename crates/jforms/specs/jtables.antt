@@ -1,0 +1,3 @@
+pub mod RunPositions
+pub mod Engines
+pub mod RunTables

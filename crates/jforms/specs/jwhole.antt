@@ -1,4 +1,0 @@
-pub mod Calls
-pub mod Executed
-pub mod Standing
-pub mod Tallied

@@ -1,3 +1,0 @@
-pub mod ByKinds
-pub mod Fronts
-pub mod Wraps

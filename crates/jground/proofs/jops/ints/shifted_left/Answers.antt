@@ -1,7 +1,0 @@
-use Rattle.std.proofs.Common.{lit<}
-use Rattle.std.specs.Int.{w32}
-use Rattle.jground.proofs.JopsProofs.Wraps.{shifted_is}
-use Rattle.jground.proofs.jops.ints.shifted_left.Goals as goal
-
-pub returns : goal.returns
-returns c = shifted_is w32 c.args.x c.args.by (lit< tt) c.ranges.x c.requires

@@ -1,0 +1,4 @@
+pub mod GuardQueries
+pub mod NumberMeanings
+pub mod GuardLaws
+pub mod StepQueries

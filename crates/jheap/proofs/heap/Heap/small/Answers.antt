@@ -1,8 +1,0 @@
-use Rattle.std.proofs.Common.{subst, arith}
-use Rattle.jheap.specs.Heaps.{AreSmall}
-use Rattle.jheap.proofs.Lying.{small}
-use Rattle.jheap.proofs.heap.Heap.small.Goals as goal
-
-pub returns : goal.returns
-returns c =
-    subst AreSmall c.self.view_is (small c.self.inside.region c.self.inside.blocks.items c.self.inside.kept.items (omega (arith, c.self.invariant.4)))

@@ -1,3 +1,0 @@
-pub mod Heaps
-pub mod Laid
-pub mod Raw

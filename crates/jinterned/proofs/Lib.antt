@@ -1,0 +1,15 @@
+pub mod DigestChains
+pub mod ListCuts
+pub mod DigestSteps
+pub mod EnteredDomains
+pub mod DigestLookup
+pub mod ContextGrowth
+pub mod PairLists
+pub mod LimitNumbers
+pub mod PairRegions
+pub mod CacheInvariants
+pub mod Results
+pub mod ListRuns
+pub mod Sameness
+pub mod TableInvariants
+pub mod ListAppends

@@ -1,0 +1,9 @@
+pub mod DigestChains
+pub mod ContextDigests
+pub mod LimitExtension
+pub mod PairLists
+pub mod PairRegions
+pub mod DomainEntryCache
+pub mod LimitSets
+pub mod ContextStores
+pub mod InternedContexts

@@ -1,4 +1,0 @@
-pub mod Entries
-pub mod Paths
-pub mod Settled
-pub mod Things

@@ -1,0 +1,14 @@
+use Rattle.std.proofs.Common.{◌≡◌, sym, ap, ◌∙◌}
+use Rattle.jresolution.specs.jprogram.ClassFileParts.{text}
+use Rattle.jlinking.specs.jreferring.ReferenceUses.{owner_use}
+use Rattle.jresolution.proofs.JusesProofs.CacheInvariants.{all_more}
+use Rattle.jlinking.proofs.jreferring.use_cache.owner_at.Goals as goal
+
+pub returns-in-Some-clause-value : goal.returns-in-Some-clause-value
+returns-in-Some-clause-value c = c.requires c.args.i c.in-Some.one (sym c.in-Some.ensures)
+
+pub returns-clause-kept : goal.returns-clause-kept
+returns-clause-kept c =
+    all_more (λ i u. u ≡ owner_use c.args.home.program.now c.args.home.from.now (text c.args.home.pool.now i))
+    c.args.i c.in_ok-one.one c.args.owners.now c.insert.new.self c.requires
+    (c.in_ok-one.ensures ∙ ap (owner_use c.args.home.program.now c.args.home.from.now) c.text_at.ensures) c.in_ok-insert.ensures.updates

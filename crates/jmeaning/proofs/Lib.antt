@@ -1,3 +1,0 @@
-pub mod JusesProofs
-pub mod JlayoutProofs
-pub mod JruleProofs

@@ -1,5 +1,0 @@
-use Rattle.jmeaning.proofs.JlayoutProofs.Placing.{Counting}
-use Rattle.jmeaning.proofs.jlayout.counts.counts_of.Given as goal
-
-abbrev pub invariant-loop-class : goal.invariant-loop-class
-invariant-loop-class l = Counting l.p l.class l.known l.counts

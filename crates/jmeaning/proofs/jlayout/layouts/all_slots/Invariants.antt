@@ -1,5 +1,0 @@
-use Rattle.jmeaning.proofs.JlayoutProofs.Placing.{AllPlaced}
-use Rattle.jmeaning.proofs.jlayout.layouts.all_slots.Given as goal
-
-abbrev pub invariant-loop-class : goal.invariant-loop-class
-invariant-loop-class l = AllPlaced l.p l.class l.slots l.statics

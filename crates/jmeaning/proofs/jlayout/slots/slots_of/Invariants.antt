@@ -1,5 +1,0 @@
-use Rattle.jmeaning.proofs.JlayoutProofs.Placing.{Placed}
-use Rattle.jmeaning.proofs.jlayout.slots.slots_of.Given as goal
-
-abbrev pub invariant-loop-field : goal.invariant-loop-field
-invariant-loop-field l = Placed l.fn.first l.fields l.field-index l.slots l.next

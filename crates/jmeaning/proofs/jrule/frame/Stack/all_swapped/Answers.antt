@@ -1,6 +1,0 @@
-use Rattle.jmeaning.proofs.JruleProofs.Swapping.{longs_kept}
-use Rattle.jmeaning.proofs.jrule.frame.Stack.all_swapped.Goals as goal
-
-pub invariant_of-result : goal.invariant_of-result
-invariant_of-result c =
-    longs_kept c.args.it c.args.new c.self.inside.items.items c.all_swapped.result.items c.self.inside.longs c.requires c.all_swapped.ensures c.self.invariant

@@ -1,7 +1,0 @@
-use Rattle.std.proofs.Common.{◌≡◌, drop}
-use Rattle.std.specs.List.{list_any}
-use Rattle.jmeaning.specs.jrule.Swaps.{is_for}
-use Rattle.jmeaning.proofs.jrule.unready.Unready.is_among.Given as goal
-
-abbrev pub invariant-loop-t : goal.invariant-loop-t
-invariant-loop-t l = list_any (is_for l.self) (drop l.t-index l.types) ≡ list_any (is_for l.self) l.types

@@ -1,7 +1,0 @@
-use Rattle.jmeaning.specs.juses.Known.{IsNoted}
-use Rattle.jmeaning.proofs.JusesProofs.Noting.{all_more}
-use Rattle.jmeaning.proofs.juses.noted.note.Goals as goal
-
-pub returns : goal.returns
-returns c = λ p pool types all one.
-    all_more (λ i n. IsNoted p pool types n) c.number_of.result c.args.one c.args.references.now c.insert.new.self all one c.in_ok-insert.ensures.updates

@@ -1,8 +1,0 @@
-use Rattle.std.proofs.Common.{◌≡◌, drop}
-use Rattle.jground.specs.jbase.Each.{each_some}
-use Rattle.jground.proofs.JbaseProofs.Loops.{some_behind}
-use Rattle.jmeaning.specs.juses.Numbered.{key_at}
-use Rattle.jmeaning.proofs.juses.numbering.keys_in.Given as goal
-
-abbrev pub invariant-loop-case : goal.invariant-loop-case
-invariant-loop-case l = some_behind l.keys (each_some (key_at l.ops l.at) (drop l.case-index l.cases)) ≡ each_some (key_at l.ops l.at) l.cases

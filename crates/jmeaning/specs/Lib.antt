@@ -1,4 +1,0 @@
-pub mod juses
-pub mod jlayout
-pub mod jrule
-pub mod ProofNames

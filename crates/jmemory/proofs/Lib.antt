@@ -1,0 +1,2 @@
+pub mod JregionProofs
+pub mod JheapProofs

@@ -1,0 +1,2 @@
+pub mod jregion
+pub mod jheap

@@ -1,0 +1,3 @@
+pub mod Heaps
+pub mod ObjectLayout
+pub mod RawValues

@@ -1,4 +1,0 @@
-pub mod Lying
-pub mod Staying
-pub mod Turning
-pub mod Waiting

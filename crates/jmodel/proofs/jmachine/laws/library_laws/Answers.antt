@@ -1,5 +1,0 @@
-use Rattle.jmodel.proofs.JmachineProofs.LibraryRows.{library_law}
-use Rattle.jmodel.proofs.jmachine.laws.library_laws.Goals as goal
-
-pub returns : goal.returns
-returns g c = library_law _ _ _ _

@@ -1,4 +1,0 @@
-pub mod Said
-pub mod Standing
-pub mod Guarded
-pub mod Fetched

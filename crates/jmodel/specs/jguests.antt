@@ -1,2 +1,0 @@
-pub mod Guested
-pub mod Turning

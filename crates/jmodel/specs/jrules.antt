@@ -1,3 +1,0 @@
-pub mod Inspecting
-pub mod Plain
-pub mod Joined

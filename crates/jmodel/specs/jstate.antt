@@ -1,6 +1,0 @@
-pub mod Arrays
-pub mod Celled
-pub mod Framed
-pub mod Numbers
-pub mod Seen
-pub mod SeenLaws

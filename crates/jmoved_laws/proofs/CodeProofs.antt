@@ -1,0 +1,15 @@
+pub mod LinkedCode
+pub mod EntrySlots
+pub mod BranchTargets
+pub mod MovedMethodCode
+pub mod Entries
+pub mod InstructionFetch
+pub mod CallSlots
+pub mod HandlerLookup
+pub mod ExpansionMeanings
+pub mod PoolPreservation
+pub mod MovedPrograms
+pub mod ReferenceResolution
+pub mod Rt
+pub mod Slots
+pub mod Types

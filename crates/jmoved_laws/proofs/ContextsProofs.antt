@@ -1,0 +1,11 @@
+pub mod Asks
+pub mod LibraryDispatch
+pub mod ContextRules
+pub mod DomainPushes
+pub mod StateContexts
+pub mod JumplessRows
+pub mod NamedMembers
+pub mod JumpTargets
+pub mod SmallContexts
+pub mod FrameInvariant
+pub mod DomainCalls

@@ -1,0 +1,4 @@
+pub mod CodeProofs
+pub mod TypesProofs
+pub mod NamesProofs
+pub mod ContextsProofs

@@ -1,0 +1,4 @@
+pub mod code
+pub mod types
+pub mod names
+pub mod contexts

@@ -1,0 +1,4 @@
+pub mod MovedBodies
+pub mod MovedMeanings
+pub mod MovedPrograms
+pub mod SlotCounts

@@ -1,0 +1,3 @@
+pub mod StateContexts
+pub mod ReducedContexts
+pub mod SmallContexts

@@ -1,0 +1,4 @@
+pub mod FullFrameLaws
+pub mod RenamedPlaces
+pub mod RulePremises
+pub mod MovedTypes

@@ -1,4 +1,0 @@
-pub mod JseenProofs
-pub mod JcodedProofs
-pub mod JretypeProofs
-pub mod JsmallProofs

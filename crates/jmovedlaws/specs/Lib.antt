@@ -1,4 +1,0 @@
-pub mod jseen
-pub mod jcoded
-pub mod jretype
-pub mod jsmall

@@ -1,4 +1,0 @@
-pub mod Codes
-pub mod Meaning
-pub mod Moving
-pub mod Slots

@@ -1,4 +1,0 @@
-pub mod Full
-pub mod Places
-pub mod Programs
-pub mod Types

@@ -1,6 +1,0 @@
-pub mod Calls
-pub mod Clear
-pub mod Found
-pub mod Openings
-pub mod Selected
-pub mod Worlds

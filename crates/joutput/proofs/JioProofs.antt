@@ -1,0 +1,4 @@
+pub mod AroundPart
+pub mod Files
+pub mod PartialLines
+pub mod WrittenTexts

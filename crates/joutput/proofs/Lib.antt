@@ -1,0 +1,3 @@
+pub mod JioProofs
+pub mod JtallyProofs
+pub mod JtraceProofs

@@ -1,0 +1,4 @@
+pub mod jio
+pub mod jtally
+pub mod jtrace
+pub mod ProofNames

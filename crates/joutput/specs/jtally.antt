@@ -1,0 +1,2 @@
+pub mod LineTallies
+pub mod EventCounts

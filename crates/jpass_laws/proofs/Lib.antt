@@ -1,0 +1,5 @@
+pub mod StepCorrespondence
+pub mod PassRuns
+pub mod ComposedSimulation
+pub mod SilentLead
+pub mod RunProgress

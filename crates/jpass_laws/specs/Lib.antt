@@ -1,0 +1,2 @@
+pub mod PassSimulation
+pub mod PassRelation

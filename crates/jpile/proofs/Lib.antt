@@ -1,4 +1,0 @@
-pub mod Ends
-pub mod Fronts
-pub mod Lying
-pub mod PileLaws

@@ -1,5 +1,0 @@
-use Rattle.jpile.proofs.Lying.{set_at_piled}
-use Rattle.jpile.proofs.pile.Pile.set_at.Goals as goal
-
-pub returns-clause-newest : goal.returns-clause-newest
-returns-clause-newest g c = set_at_piled c.self.inside.start c.args.i _ c.args.item c.self.inside.items.items c.args.self.now c.self.view_is

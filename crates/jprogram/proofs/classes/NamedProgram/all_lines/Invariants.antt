@@ -1,6 +1,0 @@
-use Rattle.std.proofs.Common.{◌≡◌, length}
-use Rattle.jprogram.specs.Lines.{AreLines}
-use Rattle.jprogram.proofs.classes.NamedProgram.all_lines.Given as goal
-
-abbrev pub invariant-loop-i : goal.invariant-loop-i
-invariant-loop-i l = AreLines l.self l.lines × (length l.lines ≡ l.i)

@@ -1,5 +1,0 @@
-use Rattle.jprogram.proofs.Rows.{Rounding}
-use Rattle.jprogram.proofs.classes.NamedProgram.round.Given as goal
-
-abbrev pub invariant-loop-j : goal.invariant-loop-j
-invariant-loop-j l = Rounding l.self l.fn.rows l.j l.rows

@@ -1,5 +1,0 @@
-use Rattle.jprogram.specs.Implementing.{AreRows}
-use Rattle.jprogram.proofs.classes.NamedProgram.settle_in_order.Given as goal
-
-abbrev pub invariant-loop-next : goal.invariant-loop-next
-invariant-loop-next l = AreRows l.self l.rows

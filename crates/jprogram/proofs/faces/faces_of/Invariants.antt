@@ -1,6 +1,0 @@
-use Rattle.std.proofs.Common.{◌≤◌}
-use Rattle.jprogram.proofs.Facing.{Facing}
-use Rattle.jprogram.proofs.faces.faces_of.Given as goal
-
-abbrev pub invariant-loop-part : goal.invariant-loop-part
-invariant-loop-part l = (l.next ≤ l.part-index) × Facing l.parts l.part-index l.next l.numbers

@@ -1,6 +1,0 @@
-use Rattle.std.proofs.Common.{◌≡◌, take, length}
-use Rattle.jprogram.specs.Digests.{AreTold}
-use Rattle.jprogram.proofs.firsts.firsts_in.Given as goal
-
-abbrev pub invariant-loop-i : goal.invariant-loop-i
-invariant-loop-i l = AreTold (take l.i l.parts) l.all.items × (length l.all.items ≡ l.i)

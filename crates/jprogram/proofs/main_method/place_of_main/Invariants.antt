@@ -1,7 +1,0 @@
-use Rattle.std.proofs.Common.{◌≡◌, ◌+◌, drop}
-use Rattle.std.specs.List.{position_or_len}
-use Rattle.jprogram.specs.Members.{is_main}
-use Rattle.jprogram.proofs.main_method.place_of_main.Given as goal
-
-abbrev pub invariant-loop-i : goal.invariant-loop-i
-invariant-loop-i l = l.i + position_or_len (is_main l.side l.class) (drop l.i l.methods) ≡ position_or_len (is_main l.side l.class) l.methods

@@ -1,7 +1,0 @@
-use Rattle.std.proofs.Common.{◌≡◌, ◌+◌, drop}
-use Rattle.std.specs.List.{position_or_len}
-use Rattle.jprogram.specs.Parts.{is_called}
-use Rattle.jprogram.proofs.members.place_among.Given as goal
-
-abbrev pub invariant-loop-i : goal.invariant-loop-i
-invariant-loop-i l = l.i + position_or_len (is_called l.class l.name l.desc) (drop l.i l.members) ≡ position_or_len (is_called l.class l.name l.desc) l.members

@@ -1,6 +1,0 @@
-use Rattle.std.proofs.Common.{take}
-use Rattle.jprogram.specs.Names.{ArePlaces}
-use Rattle.jprogram.proofs.names.places_of.Given as goal
-
-abbrev pub invariant-loop-i : goal.invariant-loop-i
-invariant-loop-i l = ArePlaces (take l.i l.parts) l.places

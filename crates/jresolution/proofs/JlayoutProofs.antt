@@ -1,0 +1,5 @@
+pub mod FieldKinds
+pub mod Lists
+pub mod FieldPlaces
+pub mod SlotContents
+pub mod Walks

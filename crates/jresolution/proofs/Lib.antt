@@ -1,0 +1,3 @@
+pub mod JprogramProofs
+pub mod JlayoutProofs
+pub mod JusesProofs

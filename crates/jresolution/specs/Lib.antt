@@ -1,0 +1,4 @@
+pub mod jprogram
+pub mod jlayout
+pub mod juses
+pub mod ProofNames

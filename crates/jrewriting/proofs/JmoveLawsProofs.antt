@@ -1,0 +1,9 @@
+pub mod InstructionEncodings
+pub mod FramePlaces
+pub mod BranchTargets
+pub mod BranchDistances
+pub mod InstructionNumbers
+pub mod CodePlaces
+pub mod HandlerRanges
+pub mod InstructionSizes
+pub mod CodeEncodings

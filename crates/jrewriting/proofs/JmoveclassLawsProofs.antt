@@ -1,0 +1,17 @@
+pub mod PrologueClasses
+pub mod CodeFormat
+pub mod CallReferences
+pub mod EntryKinds
+pub mod TextSplits
+pub mod ClassTail
+pub mod FrameClasses
+pub mod HandlerFormat
+pub mod StackMaps
+pub mod CodeLength
+pub mod MovedMethods
+pub mod Methods
+pub mod AddedNames
+pub mod PoolFormat
+pub mod AddedReferences
+pub mod SoundPools
+pub mod Texts

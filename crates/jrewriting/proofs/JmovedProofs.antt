@@ -1,9 +1,0 @@
-pub mod Fitting
-pub mod Framing
-pub mod Leading
-pub mod Nearing
-pub mod Numbering
-pub mod Placing
-pub mod Ranging
-pub mod Sizing
-pub mod Spelling

@@ -1,9 +1,0 @@
-use Rattle.jmove.specs.Lines.{place_of}
-use Rattle.jrewriting.proofs.JmovedProofs.Sizing.{size_same, laid_placed}
-use Rattle.jrewriting.proofs.jmoved.laws.size_laws.Goals as goal
-
-pub returns-clause-same : goal.returns-clause-same
-returns-clause-same g f at op = size_same f at op
-
-pub returns-clause-laid : goal.returns-clause-laid
-returns-clause-laid g ls = laid_placed (λ old. place_of old 0 ls) 0 ls

@@ -1,5 +1,0 @@
-use Rattle.jrewriting.proofs.JmovefileProofs.Methods.{methods_good}
-use Rattle.jrewriting.proofs.jmovefile.laws.method_law.Goals as goal
-
-pub returns : goal.returns
-returns g p domain c k = methods_good p domain c k

@@ -1,0 +1,2 @@
+pub mod MovedFiles
+pub mod FrameClasses

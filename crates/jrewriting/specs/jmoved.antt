@@ -1,8 +1,0 @@
-pub mod Branches
-pub mod Distances
-pub mod Frames
-pub mod Numbers
-pub mod Places
-pub mod Ranges
-pub mod Sizes
-pub mod Spelling

@@ -1,3 +1,0 @@
-pub mod Slashes
-pub mod Taken
-pub mod Sharing

@@ -1,4 +1,0 @@
-pub mod AroundPart
-pub mod Files
-pub mod UnderWay
-pub mod Written

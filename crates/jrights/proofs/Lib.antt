@@ -1,4 +1,0 @@
-pub mod JioProofs
-pub mod JtraceProofs
-pub mod JdomainProofs
-pub mod JtallyProofs

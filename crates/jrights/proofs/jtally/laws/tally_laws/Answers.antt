@@ -1,5 +1,0 @@
-use Rattle.jrights.proofs.JtallyProofs.LineCounts.{all_counts}
-use Rattle.jrights.proofs.jtally.laws.tally_laws.Goals as goal
-
-pub returns : goal.returns
-returns c = record { counts = all_counts }

@@ -1,4 +1,0 @@
-pub mod Domains
-pub mod Shares
-pub mod Sources
-pub mod Stacks

@@ -1,5 +1,0 @@
-pub mod Held
-pub mod LineOf
-pub mod Memory
-pub mod Puts
-pub mod Text

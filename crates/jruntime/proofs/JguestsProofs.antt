@@ -1,0 +1,4 @@
+pub mod ThreadLists
+pub mod ThreadMembership
+pub mod ThreadTurns
+pub mod ThreadLiveness

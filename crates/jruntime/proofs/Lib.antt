@@ -1,0 +1,3 @@
+pub mod JguestsProofs
+pub mod JrunProofs
+pub mod JstateProofs

@@ -1,0 +1,3 @@
+pub mod jguests
+pub mod jrun
+pub mod jstate

@@ -1,0 +1,2 @@
+pub mod GuestThreads
+pub mod TurnOutcomes

@@ -1,0 +1,2 @@
+pub mod StepOutcomes
+pub mod RunSegments

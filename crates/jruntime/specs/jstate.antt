@@ -1,0 +1,6 @@
+pub mod ArrayNumbers
+pub mod ObjectCells
+pub mod FrameLists
+pub mod ClassNumbers
+pub mod HeapMeanings
+pub mod HeapMeaningLaws

@@ -1,4 +1,0 @@
-pub mod JtypedProofs
-pub mod JyieldProofs
-pub mod JsafeProofs
-pub mod JsoundProofs

@@ -1,4 +1,0 @@
-pub mod jtyped
-pub mod jyield
-pub mod jsafe
-pub mod jsound

@@ -1,0 +1,2 @@
+pub mod PrivilegeExamples
+pub mod RuleEquivalence

@@ -1,0 +1,2 @@
+pub mod JmachineProofs
+pub mod JrulesProofs

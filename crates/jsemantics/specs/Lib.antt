@@ -1,0 +1,3 @@
+pub mod jmachine
+pub mod jrules
+pub mod ProofNames

@@ -1,0 +1,3 @@
+pub mod InspectingRules
+pub mod PlainRules
+pub mod RuleCorrespondence

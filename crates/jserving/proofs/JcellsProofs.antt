@@ -1,0 +1,4 @@
+pub mod ListGrowth
+pub mod ShapePreservation
+pub mod ObjectCells
+pub mod ArrayTypeNumbers

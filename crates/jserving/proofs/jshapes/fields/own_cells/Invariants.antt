@@ -1,6 +1,0 @@
-use Rattle.std.proofs.Common.{◌≡◌, take}
-use Rattle.jserving.proofs.JshapesProofs.Laying.{own}
-use Rattle.jserving.proofs.jshapes.fields.own_cells.Given as goal
-
-abbrev pub invariant-loop-field : goal.invariant-loop-field
-invariant-loop-field l = l.cells ≡ own l.p l.part (take l.field-index l.part.class.fields)

@@ -1,8 +1,0 @@
-use Rattle.jserving.proofs.JshapesProofs.Lasting.{permissions_last, rows_stay}
-use Rattle.jserving.proofs.jshapes.laws.alike_laws.Goals as goal
-
-pub returns-clause-rows : goal.returns-clause-rows
-returns-clause-rows g c = rows_stay
-
-pub returns-clause-permissions : goal.returns-clause-permissions
-returns-clause-permissions g c = permissions_last

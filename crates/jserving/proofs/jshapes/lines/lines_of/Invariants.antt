@@ -1,5 +1,0 @@
-use Rattle.jserving.specs.jshapes.Fielded.{AreLinesTo}
-use Rattle.jserving.proofs.jshapes.lines.lines_of.Given as goal
-
-abbrev pub invariant-loop-i : goal.invariant-loop-i
-invariant-loop-i l = AreLinesTo l.p l.lines l.i

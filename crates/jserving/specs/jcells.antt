@@ -1,0 +1,4 @@
+pub mod ObjectEquivalence
+pub mod UserClassCells
+pub mod ArrayTypeNumbers
+pub mod CellLayout

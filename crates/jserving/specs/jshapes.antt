@@ -1,4 +1,0 @@
-pub mod Alike
-pub mod Fielded
-pub mod Numbered
-pub mod Tied

@@ -1,0 +1,2 @@
+pub mod MachineAgreement
+pub mod ContextExamples

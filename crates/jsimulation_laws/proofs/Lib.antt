@@ -1,0 +1,4 @@
+pub mod BetweenProofs
+pub mod StutteringProofs
+pub mod LocalProofs
+pub mod RelationProofs

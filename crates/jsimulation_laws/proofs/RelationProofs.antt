@@ -1,0 +1,3 @@
+pub mod ExpansionExamples
+pub mod ExpansionLengths
+pub mod References

@@ -1,0 +1,3 @@
+pub mod LeadCounts
+pub mod StutterCounts
+pub mod Silences

@@ -1,0 +1,4 @@
+pub mod between
+pub mod stuttering
+pub mod local
+pub mod relation

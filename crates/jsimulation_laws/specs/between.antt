@@ -1,0 +1,2 @@
+pub mod BetweenMachines
+pub mod MachineAgreement

@@ -1,0 +1,3 @@
+pub mod InstructionExpansion
+pub mod ProgramRelation
+pub mod StateRelation

@@ -1,0 +1,3 @@
+pub mod MarkResolution
+pub mod Meanings
+pub mod Paths

@@ -1,0 +1,4 @@
+pub mod SnapshotEntries
+pub mod SnapshotPath
+pub mod WalkEnds
+pub mod SnapshotMeanings

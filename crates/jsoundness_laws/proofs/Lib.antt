@@ -1,0 +1,4 @@
+pub mod ProgressProofs
+pub mod ProgramProofs
+pub mod TypedProofs
+pub mod LibraryProofs

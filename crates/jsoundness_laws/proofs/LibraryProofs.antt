@@ -1,0 +1,17 @@
+pub mod ContextRows
+pub mod RunSelection
+pub mod Classes
+pub mod LibraryCalls
+pub mod StoreExtension
+pub mod LibraryRules
+pub mod Objects
+pub mod Orders
+pub mod PermissionRows
+pub mod PrivilegeRows
+pub mod ReservedNames
+pub mod LibraryCallRows
+pub mod RuleSides
+pub mod MemberDescriptors
+pub mod TextRows
+pub mod ThreadRows
+pub mod ThrowableRows

@@ -1,0 +1,10 @@
+pub mod Calls
+pub mod Codes
+pub mod MethodDeclarations
+pub mod Entries
+pub mod Fields
+pub mod Libraries
+pub mod LinkedClasses
+pub mod LinkedInstructions
+pub mod ProgramRuns
+pub mod ProgramSoundness

@@ -1,0 +1,4 @@
+pub mod progress
+pub mod program
+pub mod typed
+pub mod library

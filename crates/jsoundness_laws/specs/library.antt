@@ -1,0 +1,3 @@
+pub mod LibraryArguments
+pub mod YieldLaws
+pub mod LibraryResults

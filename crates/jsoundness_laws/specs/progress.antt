@@ -1,0 +1,2 @@
+pub mod SoundPrograms
+pub mod TypedStates

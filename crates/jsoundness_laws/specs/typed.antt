@@ -1,0 +1,11 @@
+pub mod TypedCalls
+pub mod TypedActions
+pub mod RuntimeAssignability
+pub mod TypedFrames
+pub mod ControlFlow
+pub mod StoreGrowth
+pub mod ProgressLaws
+pub mod FrameStacks
+pub mod TypedStores
+pub mod TypedUses
+pub mod TypedValues

@@ -1,0 +1,4 @@
+pub mod Ends
+pub mod ListFronts
+pub mod ListUpdates
+pub mod PileLaws

@@ -1,0 +1,3 @@
+pub mod ListStackLaws
+pub mod ListStacks
+pub mod ListStarts

@@ -1,5 +1,0 @@
-pub mod Halting
-pub mod Members
-pub mod Paths
-pub mod PartsRead
-pub mod Wholes

@@ -1,7 +1,0 @@
-use Rattle.std.proofs.Common.{take}
-use Rattle.std.specs.List.{AllByRecursion}
-use Rattle.jrewriting.proofs.JrewriteProofs.Rewriting.{IsFile}
-use Rattle.jstages.proofs.linking.are_classes.Given as goal
-
-abbrev pub invariant-loop-part : goal.invariant-loop-part
-invariant-loop-part l = AllByRecursion IsFile (take l.part-index l.program.parts)

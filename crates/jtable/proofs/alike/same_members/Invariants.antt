@@ -1,7 +1,0 @@
-use Rattle.std.proofs.Common.{◌≡◌, drop}
-use Rattle.jperm.specs.Permissions.{equal}
-use Rattle.jtable.specs.Tables.{pairwise}
-use Rattle.jtable.proofs.alike.same_members.Given as goal
-
-abbrev pub invariant-loop-i : goal.invariant-loop-i
-invariant-loop-i l = pairwise equal (drop l.i l.a) (drop l.i l.b) ≡ pairwise equal l.a l.b

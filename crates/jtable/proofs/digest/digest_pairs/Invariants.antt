@@ -1,9 +1,0 @@
-use Rattle.std.proofs.Common.{◌≡◌, fold, length}
-use Rattle.jtable.specs.Digests.{digest_pair, digest_pairs}
-use Rattle.jtable.proofs.digest.digest_pairs.Given as goal
-
-abbrev pub invariant-loop-rest : goal.invariant-loop-rest
-invariant-loop-rest l = fold digest_pair l.sum l.rest ≡ digest_pairs l.pairs
-
-abbrev pub decreases-loop-rest : goal.decreases-loop-rest
-decreases-loop-rest l = length l.rest

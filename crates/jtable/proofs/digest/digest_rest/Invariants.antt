@@ -1,6 +1,0 @@
-use Rattle.std.proofs.Common.{◌≡◌, drop, fold}
-use Rattle.jtable.specs.Digests.{digest_pair}
-use Rattle.jtable.proofs.digest.digest_rest.Given as goal
-
-abbrev pub invariant-loop-p : goal.invariant-loop-p
-invariant-loop-p l = fold digest_pair l.sum (drop l.p-index l.pairs) ≡ fold digest_pair l.start l.pairs

@@ -1,7 +1,0 @@
-use Rattle.std.proofs.Common.{◌≡◌, drop}
-use Rattle.jctx.specs.Limits.{add_limits}
-use Rattle.jtable.proofs.limits.add_new.Given as goal
-
--- adding what is left gives what adding all gives
-abbrev pub invariant-loop-p : goal.invariant-loop-p
-invariant-loop-p l = add_limits l.made (drop l.p-index l.new) ≡ add_limits l.fn.made l.fn.new

@@ -1,7 +1,0 @@
-use Rattle.jtable.proofs.Listing.{run_here}
-use Rattle.jtable.proofs.lists.Lists.run.Goals as goal
-
-pub returns : goal.returns
-returns c =
-    run_here c.self.inside.pairs c.self.inside.entries.items c.args.self.now c.args.n c.index-entry.result.now c.self.view_is c.self.invariant.0 c.requires.list c.index-entry.ensures
-    c.args.i c.run.result.now c.requires.pair c.run.ensures

@@ -1,9 +1,0 @@
-use Rattle.std.proofs.Common.{◌≡◌, drop}
-use Rattle.jrights.specs.jdomain.Domains.{has}
-use Rattle.jctx.specs.Contexts.{verdict}
-use Rattle.jtable.specs.Stores.{items_of}
-use Rattle.jtable.proofs.making.decide_run.Given as goal
-
--- what is left decides as the whole does
-abbrev pub invariant-loop-pair : goal.invariant-loop-pair
-invariant-loop-pair l = verdict (has l.domains) l.asked (items_of l.sets (drop l.pair-index l.run)) ≡ verdict (has l.domains) l.asked (items_of l.sets l.run)

@@ -1,7 +1,0 @@
-use Rattle.std.proofs.Common.{◌≡◌, drop}
-use Rattle.jctx.specs.Growing.{hidden}
-use Rattle.jtable.specs.Stores.{item_of, items_of}
-use Rattle.jtable.proofs.making.hides.Given as goal
-
-abbrev pub invariant-loop-earlier : goal.invariant-loop-earlier
-invariant-loop-earlier l = hidden (items_of l.sets (drop l.earlier-index l.made)) (item_of l.sets l.pair) ≡ hidden (items_of l.sets l.made) (item_of l.sets l.pair)

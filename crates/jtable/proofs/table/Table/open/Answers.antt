@@ -1,7 +1,0 @@
-use Rattle.jtable.specs.Stores.{contexts_of}
-use Rattle.jtable.proofs.Remembering.{right_none}
-use Rattle.jtable.proofs.Storing.{opened}
-use Rattle.jtable.proofs.table.Table.open.Goals as goal
-
-pub invariant_of-result : goal.invariant_of-result
-invariant_of-result c = (opened c.in_ok-store.store c.in_ok-store.ensures, right_none (contexts_of c.in_ok-store.store) c.in_ok-known.known 4096 c.in_ok-known.ensures.empty)

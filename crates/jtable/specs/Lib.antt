@@ -1,9 +1,0 @@
-pub mod Chains
-pub mod Digests
-pub mod Extending
-pub mod Lists
-pub mod Regions
-pub mod Remembered
-pub mod Sets
-pub mod Stores
-pub mod Tables

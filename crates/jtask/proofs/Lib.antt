@@ -1,5 +1,0 @@
-pub mod Classes
-pub mod Mains
-pub mod Parts
-pub mod Sides
-pub mod Sources

@@ -1,9 +1,0 @@
-use Rattle.std.proofs.Common.{ℕ, List, subst}
-use Rattle.std.specs.Prelude.{OnOk}
-use Rattle.jtask.specs.Tasks.{JobClasses}
-use Rattle.jtask.proofs.tasks.task_of.Goals as goal
-
-pub returns-in-Run-clause-classes : goal.returns-in-Run-clause-classes
-returns-in-Run-clause-classes g c = λ files told.
-    let read = subst (λ (path : List ℕ). OnOk c.run_at.result (JobClasses files path)) c.as_str.ensures (c.run_at.ensures.classes files told) in
-    rw c.in-Run.is read

@@ -1,0 +1,5 @@
+pub mod HaltingLoops
+pub mod ListPositions
+pub mod Paths
+pub mod LinkableParts
+pub mod Wholes

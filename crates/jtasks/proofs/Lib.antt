@@ -1,0 +1,2 @@
+pub mod JstagesProofs
+pub mod JtaskProofs

@@ -1,0 +1,2 @@
+pub mod jstages
+pub mod jtask

@@ -1,0 +1,11 @@
+pub mod Ends
+pub mod Grounds
+pub mod Headlines
+pub mod JobCreation
+pub mod ProgramParts
+pub mod RewriteAnswers
+pub mod StoredRuns
+pub mod JobSizes
+pub mod StoredFiles
+pub mod CommandAnswers
+pub mod RunProgress

@@ -1,0 +1,5 @@
+pub mod RewrittenRuns
+pub mod Answers
+pub mod Headline
+pub mod GeneratedRuns
+pub mod JobProgress

@@ -1,0 +1,9 @@
+pub mod Bodies
+pub mod TypedFrames
+pub mod FrameIndices
+pub mod Methods
+pub mod BranchNumbers
+pub mod InstructionTests
+pub mod Successors
+pub mod Tests
+pub mod TypingExamples

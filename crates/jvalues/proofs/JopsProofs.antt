@@ -1,0 +1,3 @@
+pub mod OperationKinds
+pub mod StackMoveFronts
+pub mod Wraps

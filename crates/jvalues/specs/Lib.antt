@@ -1,0 +1,3 @@
+pub mod jnames
+pub mod jops
+pub mod ProofNames

@@ -1,0 +1,3 @@
+pub mod ValueKinds
+pub mod Operations
+pub mod Shuffles

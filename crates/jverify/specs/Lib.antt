@@ -1,0 +1,9 @@
+pub mod IncomingFrames
+pub mod LocalChains
+pub mod CheckedMethods
+pub mod MethodStarts
+pub mod FrameTables
+pub mod FrameFacts
+pub mod NewInstructions
+pub mod InternedMethods
+pub mod MethodPlaces

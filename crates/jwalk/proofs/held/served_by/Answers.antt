@@ -1,5 +1,0 @@
-use Rattle.jwalk.proofs.Serving.{itself_told, same_flag}
-use Rattle.jwalk.proofs.held.served_by.Goals as goal
-
-pub returns : goal.returns
-returns c = itself_told c.args.served _ (same_flag c.args.old c.args.new c.if-old-new.false)

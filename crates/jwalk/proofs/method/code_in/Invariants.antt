@@ -1,8 +1,0 @@
-use Rattle.std.proofs.Common.{◌≡◌, drop}
-use Rattle.jground.specs.jbase.First.{first_some}
-use Rattle.jclass.specs.Members.{body_of}
-use Rattle.jprogram.specs.Parts.{code_of}
-use Rattle.jwalk.proofs.method.code_in.Given as goal
-
-abbrev pub invariant-loop-attribute : goal.invariant-loop-attribute
-invariant-loop-attribute l = first_some body_of (drop l.attribute-index l.method.attributes) ≡ code_of l.method

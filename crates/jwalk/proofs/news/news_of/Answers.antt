@@ -1,6 +1,0 @@
-use Rattle.jmeaning.specs.juses.Tables.{pool_at}
-use Rattle.jwalk.proofs.Made.{made_there}
-use Rattle.jwalk.proofs.news.news_of.Goals as goal
-
-pub returns : goal.returns
-returns c = made_there c.args.p.now (pool_at c.args.p.now c.args.class) (record { ops = c.args.ops.now; made = c.in_ok-all_made.field-0 }) c.in_ok-all_made.ensures

@@ -1,7 +1,0 @@
-use Rattle.jmeaning.specs.jrule.Seen.{seen}
-use Rattle.jwalk.proofs.Stored.{store_form}
-use Rattle.jwalk.proofs.storing.local_rests.Goals as goal
-
-pub returns-in-Store : goal.returns-in-Store
-returns-in-Store c truth most =
-    store_form (seen c.args.p.now c.args.f.now) c.args.form _ _ _ c.in-Move.is c.in-Store.is (c.store_rests.ensures truth) most

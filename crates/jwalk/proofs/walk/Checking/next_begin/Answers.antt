@@ -1,7 +1,0 @@
-use Rattle.jwalk.specs.Checking.{method_of}
-use Rattle.jwalk.proofs.Serving.{nearest_more}
-use Rattle.jwalk.proofs.walk.Checking.next_begin.Goals as goal
-
-pub loop-h-preserved : goal.loop-h-preserved
-loop-h-preserved c =
-    nearest_more (method_of c.args.self.now).body.handlers c.loop-h.h-index _ c.args.at c.loop-h.next c.nearer-next.result c.loop-h-test.true c.nearer-next.ensures.near c.nearer-next.ensures.start c.loop-h.invariant

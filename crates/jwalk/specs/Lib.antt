@@ -1,9 +1,0 @@
-pub mod Before
-pub mod Chained
-pub mod Checking
-pub mod First
-pub mod Given
-pub mod Keeping
-pub mod News
-pub mod Numbered
-pub mod Places

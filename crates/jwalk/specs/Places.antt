@@ -1,6 +1,0 @@
--- What a place in a method stands for.
-use Rattle.jtyping.specs.Typing as typing
-use Rattle.jwalk.specs.declared.place.Place.{Place}
-
-abbrev pub place_of : Place → typing.Place
-place_of x = record { class = x.class; method = x.method; at = x.at }
