@@ -6,7 +6,7 @@ that they name. Imports, comments, attributes and blank lines aren't counted.
 Of a type with a `Model` a clause sees its Value alone: its head, its public fields and what it says of its Value are counted and followed, its
 private fields and the types that only these name aren't. Any other type is counted whole, with the types of all its fields, each found by
 the `use` lines of its file.
-`reached.py headline` counts what the two clauses on the pass form reach."""
+`reached.py headline` counts what the two clauses on the pass form reach, `reached.py files` names the files in which all of it stands."""
 import collections, glob, os, re, sys
 
 CRATES = os.path.join(os.path.dirname(os.path.abspath(__file__)), "..", "..", "crates")
@@ -174,24 +174,47 @@ class Definitions:
                 self.reach_rust(key[0], key[1], word)
 
 
-def main():
+class Total:
+    """What the contracts reach, counted: of `headline` the two clauses on the pass form alone."""
+
+    def __init__(self, all):
+        self.by_crate = collections.Counter()
+        self.types_by_crate = collections.Counter()
+        modules = {module for module, _ in all.reached}
+        for module in modules:
+            _, found, _ = all.modules[module]
+            self.by_crate[module.split(".")[0]] += len({i for name in found if (module, name) in all.reached for i in found[name]})
+        for key in all.reached_types:
+            self.types_by_crate[key[0]] += len(all.shown(key))
+        self.definitions = len(all.reached)
+        self.lines, self.types = sum(self.by_crate.values()), sum(self.types_by_crate.values())
+        # the files, each by its room (or its crate) and its own name
+        self.files = {(module.split(".")[-2] if module.split(".")[-2] != "specs" else module.split(".")[0], module.split(".")[-1]) for module in modules}
+        self.file_lines = sum(len(all.modules[module][0]) - 1 for module in modules)
+
+
+def total(words):
     all = Definitions()
-    if sys.argv[1:] == ["headline"]:
+    if words == ["headline"]:
         for clause in ("AnswersSome", "AnswersAll"):
-            all.reach("jdriver.specs.Headline", clause)
+            all.reach("jtop.specs.jdriver.Headline", clause)
     else:
         for function in ("javasec", "dispatch"):
-            all.reach_contract("jdriver", function)
+            all.reach_contract("jtop", function)
     all.close()
-    lines, types = collections.Counter(), collections.Counter()
-    for module in {module for module, _ in all.reached}:
-        _, found, _ = all.modules[module]
-        lines[module.split(".")[0]] += len({i for name in found if (module, name) in all.reached for i in found[name]})
-    for key in all.reached_types:
-        types[key[0]] += len(all.shown(key))
-    for crate in sorted(set(lines) | set(types)):
-        print(f"{crate:12} {lines[crate]:6} {types[crate]:6}")
-    print(f"{len(all.reached)} definitions of {sum(lines.values())} lines; types of {sum(types.values())} lines")
+    return Total(all)
 
 
-main()
+def main():
+    if sys.argv[1:] == ["files"]:
+        for room, name in sorted(total([]).files):
+            print(f"{room}/specs/{name}")
+        return
+    now = total(sys.argv[1:])
+    for crate in sorted(set(now.by_crate) | set(now.types_by_crate)):
+        print(f"{crate:16} {now.by_crate[crate]:6} {now.types_by_crate[crate]:6}")
+    print(f"{now.definitions} definitions of {now.lines} lines; types of {now.types} lines; the whole files have {now.file_lines} lines")
+
+
+if __name__ == "__main__":
+    main()
