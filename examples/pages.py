@@ -60,6 +60,14 @@ def sources(room):
     return [p for p in found if re.search(rf"^[^/]+/({inner}|{proofs})[/.]", os.path.relpath(p, base))]
 
 
+def functions():
+    found = set()
+    for path in glob.glob(f"{ROOT}/crates/*/src/**/*.rt", recursive=True):
+        found |= set(re.findall(r"\bfn (j\w+)", open(path, encoding="utf-8").read()))
+    return found
+
+
+FUNCTIONS = functions()
 TEXTS = {}
 
 
@@ -128,14 +136,13 @@ def test_paths(page):
 def test_names(page):
     for number, line in outside_blocks(page):
         for word in re.findall(r"(?<![\w/.$:\-])(j[a-z_]*[a-z])(?![\w(]|\.\w|/\w|-\w)", line):
-            inner = re.search(rf"(?<![\w/.])({word}::(\w+))", line)
             if word in CRATES or word in ROOMS:
                 counts["rooms"] += 1
                 for name in re.findall(rf"(?<![\w/.]){word}::(\w+)", line):
                     counts["names"] += 1
                     if not re.search(rf"(?<!\w){name}(?!\w)", text_of(word)):
                         say(page, number, f"no {word}::{name}")
-            elif word not in WORDS:
+            elif word not in WORDS and word not in FUNCTIONS:
                 say(page, number, f"no crate or room {word}")
         for name, room in re.findall(r"`([\w:]+)`(?: of| in) `?(j\w+(?:::\w+)?)`?", line):
             if room.split("::")[0] in CRATES or room in ROOMS:
@@ -262,15 +269,89 @@ def test_files(whole):
     counts["files"] += len(said)
 
 
+def stands_on():
+    lines = [line.split("#")[0].strip() for line in read("crates.txt").split("\n")]
+    return {line.split(":")[0]: line.split(":")[1].split() for line in lines if ":" in line}
+
+
+def tables(page):
+    """The rows of a page's tables, by the heads of these tables."""
+    head = None
+    for number, line in enumerate(read(page).split("\n"), 1):
+        cells = tuple(cell.strip() for cell in line.split("|")[1:-1])
+        if not cells:
+            head = None
+        elif head is None:
+            head = cells
+        elif not set(cells[0]) <= set("-") or not cells[0]:
+            yield head, number, cells
+
+
 def test_map():
-    """MAP has a row for each crate and each room."""
-    page = "docs/MAP.md"
-    text = read(page)
+    """MAP has one row for each crate and each room; a crate stands on its own storey and those below; who stands on the kit, who cites."""
+    page, on, said, kit, cites = "docs/MAP.md", stands_on(), collections.Counter(), {}, cited()
+    crate = None
+    for head, number, cells in tables(page):
+        if head == ("crate", "room", "for"):
+            counts["rows"] += 1
+            if cells[0].startswith("**"):
+                continue
+            if cells[0]:
+                crate = cells[0]
+                said[crate] += 1
+            else:
+                room = cells[1].strip("`").split("::")
+                said[room[-1]] += 1
+                if ROOMS.get(room[-1]) != crate or (len(room) > 1) != crate.endswith("_laws"):
+                    say(page, number, f"no room {cells[1]} of {crate}")
+        elif head == ("crate", "for", "stands below"):
+            for name in re.findall(r"`(\w+)`", cells[0]):
+                kit[name] = re.findall(r"\w+", cells[2])
+                if sorted(kit[name]) != sorted(c for c in on if name in on[c]):
+                    say(page, number, f"{name} stands below {', '.join(c for c in on if name in on[c])}")
+        elif head == ("lemmas of", "cited most by"):
+            for name in re.findall(r"\w+", cells[0]):
+                named = [c for c in re.findall(r"\w+", cells[1]) if c in CRATES]
+                more = re.search(r"and (\d+) more", cells[1])
+                counts["citations"] += len(named)
+                for other in named:
+                    if other not in cites[name]:
+                        say(page, number, f"{other} cites no lemma of {name}")
+                if more and len(cites[name]) != len(named) + int(more.group(1)):
+                    say(page, number, f"lemmas of {name} are cited by {len(cites[name])} crates")
     for name in CRATES + list(ROOMS):
-        full = f"{ROOMS[name]}::{name}" if name in ROOMS and ROOMS[name].endswith("_laws") else name
-        counts["rows"] += 1
-        if not re.search(rf"^\| (?:[^|]*[\s`,])?{full}[`,]?(?: [^|]*)?\|", text, re.M):
-            say(page, 0, f"no row for {full}")
+        if said[name] != 1:
+            say(page, 0, f"{said[name]} rows for {name}")
+    for name in sorted({n for c in on for n in on[c] if n not in CRATES} - set(kit)):
+        say(page, 0, f"no row for {name} of the kit")
+    test_storeys(page, on)
+
+
+def test_storeys(page, on):
+    known, storey = set(), []
+    for head, number, cells in list(tables(page)) + [(("crate", "room", "for"), 0, ("**end**", "", ""))]:
+        if head != ("crate", "room", "for"):
+            continue
+        if cells[0].startswith("**"):
+            known |= {name for name, _ in storey}
+            for name, where in storey:
+                for other in on.get(name, []):
+                    if other in CRATES and other not in known:
+                        say(page, where, f"{name} stands on {other}, which is on a storey above")
+            storey = []
+        elif cells[0]:
+            storey.append((cells[0], number))
+
+
+def cited():
+    """By crate: the crates whose proofs or code cite its lemmas."""
+    found = collections.defaultdict(set)
+    for path in glob.glob(f"{ROOT}/crates/*/**/*.antt", recursive=True) + glob.glob(f"{ROOT}/crates/*/**/*.rt", recursive=True):
+        crate = os.path.relpath(path, ROOT).split(os.sep)[1]
+        text = open(path, encoding="utf-8").read()
+        for other in re.findall(r"^\s*(?:ghost )?use Rattle\.(\w+)\.proofs\b|\b(j\w+)::proofs::", text, re.M):
+            found["".join(other)].add(crate)
+    return {name: others - {name} for name, others in found.items()}
 
 
 def long_sentences(page):

@@ -6,7 +6,8 @@ that they name. Imports, comments, attributes and blank lines aren't counted.
 Of a type with a `Model` a clause sees its Value alone: its head, its public fields and what it says of its Value are counted and followed, its
 private fields and the types that only these name aren't. Any other type is counted whole, with the types of all its fields, each found by
 the `use` lines of its file.
-`reached.py headline` counts what the two clauses on the pass form reach, `reached.py files` names the files in which all of it stands."""
+`reached.py headline` counts what the two clauses on the pass form reach, `reached.py LAW` what a call of LAWS reaches. With the word `files`
+behind it names the files in which that stands, of a law those that `javasec` and `dispatch` don't reach."""
 import collections, glob, os, re, sys
 
 CRATES = os.path.join(os.path.dirname(os.path.abspath(__file__)), "..", "..", "crates")
@@ -128,7 +129,7 @@ class Definitions:
     def reach_contract(self, crate, function):
         for path in glob.glob(f"{CRATES}/{crate}/src/**/*.rt", recursive=True):
             text = open(path).read()
-            head = re.search(r"pub fn " + function + r"<.*?\n\{", text, re.S)
+            head = re.search(r"pub fn " + function + r"[<(].*?\n\{", text, re.S)
             if head:
                 self.reach_text(head.group(0), *imports(text.split("\n")))
 
@@ -193,12 +194,18 @@ class Total:
         self.file_lines = sum(len(all.modules[module][0]) - 1 for module in modules)
 
 
+LAWS = {"alike_law": "jtop", "unstuck_law": "jtop", "run_pass": "jforms"}
+
+
 def total(words):
+    """What `javasec` and `dispatch` reach; or the headline; or the laws that are named, each a call of LAWS."""
     all = Definitions()
     if words == ["headline"]:
         for clause in ("AnswersSome", "AnswersAll"):
             all.reach("jtop.specs.jdriver.Headline", clause)
-    else:
+    for function in words if words and words[0] in LAWS else []:
+        all.reach_contract(LAWS[function], function)
+    if not words:
         for function in ("javasec", "dispatch"):
             all.reach_contract("jtop", function)
     all.close()
@@ -206,11 +213,12 @@ def total(words):
 
 
 def main():
-    if sys.argv[1:] == ["files"]:
-        for room, name in sorted(total([]).files):
+    words = [word for word in sys.argv[1:] if word != "files"]
+    now = total(words)
+    if "files" in sys.argv[1:]:
+        for room, name in sorted(now.files - (total([]).files if words else set())):
             print(f"{room}/specs/{name}")
         return
-    now = total(sys.argv[1:])
     for crate in sorted(set(now.by_crate) | set(now.types_by_crate)):
         print(f"{crate:16} {now.by_crate[crate]:6} {now.types_by_crate[crate]:6}")
     print(f"{now.definitions} definitions of {now.lines} lines; types of {now.types} lines; the whole files have {now.file_lines} lines")
