@@ -191,7 +191,7 @@ def test_rows():
                 counts["clauses"] += 1
                 if name not in clauses(top):
                     say(page, number, f"javasec has no clause {name}")
-        elif table[0] == "promise" and not set(cells[0]) <= set("-"):
+        elif table[1:2] == ["public call"] and not set(cells[0]) <= set("-"):
             test_row(page, number, cells)
     for name in clauses(top):
         if name not in said:
@@ -253,20 +253,21 @@ def test_counts():
 
 
 def test_files(whole):
-    """The table of files in THEOREMS names the modules that the contracts reach, and no others."""
-    page, said = "docs/THEOREMS.md", {}
-    text = read(page)
-    for number, line in enumerate(text.split("\n"), 1):
-        row = re.match(r"\| [^|]+ \| ((?:j\w+: [^|;]+(?:; )?)+) \|$", line)
-        for part in row.group(1).split("; ") if row else []:
-            room, names = part.split(": ", 1)
-            for name in re.findall(r"[A-Z]\w+", names):
-                said[(room, name)] = number
-    for room, name in sorted(said.keys() - whole.files):
-        say(page, said[(room, name)], f"the contracts reach nothing of {room}/specs/{name}")
-    for room, name in sorted(whole.files - said.keys()):
-        say(page, 0, f"the contracts reach {room}/specs/{name}, which the table doesn't name")
-    counts["files"] += len(said)
+    """The tables of files in THEOREMS name the modules that the contracts reach, and no others; those of a law only what is further."""
+    page, said = "docs/THEOREMS.md", collections.defaultdict(dict)
+    for head, number, cells in tables(page):
+        if head[-1] == "room: files":
+            law = cells[1].strip("`") if len(cells) == 3 else ""
+            for part in cells[-1].split("; "):
+                room, names = part.split(": ", 1)
+                said[law].update({(room.split("::")[-1], name): number for name in re.findall(r"\w+", names)})
+    for law in ["", *reached.LAWS]:
+        files = reached.total([law]).files - whole.files if law else whole.files
+        for room, name in sorted(said[law].keys() - files):
+            say(page, said[law][room, name], f"{law or 'the top call'} reaches nothing of {room}/specs/{name}")
+        for room, name in sorted(files - said[law].keys()):
+            say(page, 0, f"{law or 'the top call'} reaches {room}/specs/{name}, which the table doesn't name")
+        counts["files"] += len(said[law])
 
 
 def stands_on():
