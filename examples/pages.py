@@ -10,7 +10,7 @@
 - No page says who may name a room.
 
 It prints what is wrong and ends with status 1, or prints a line of counts. `pages.py long` prints the sentences of more than 30 words instead."""
-import collections, glob, os, re, sys
+import collections, functools, glob, os, re, sys
 
 ROOT = os.path.normpath(os.path.join(os.path.dirname(os.path.abspath(__file__)), ".."))
 sys.path.insert(0, os.path.join(ROOT, "examples", "measures"))
@@ -268,6 +268,24 @@ def test_files(whole):
         for room, name in sorted(files - said[law].keys()):
             say(page, 0, f"{law or 'the top call'} reaches {room}/specs/{name}, which the table doesn't name")
         counts["files"] += len(said[law])
+    test_order(page, [room for room, _ in said[""]])
+
+
+@functools.cache
+def reached_files():
+    return reached.total([]).files
+
+
+def test_order(page, rooms):
+    """Behind the rooms of the first row each file to be read imports files of its own room and of rooms before it."""
+    place = {room: k for k, room in reversed(list(enumerate(rooms)))}
+    first = place["jbase"]
+    for module, (_, _, (names, aliases)) in reached.Definitions().modules.items():
+        room, name = reached.room_of(module)
+        for other in [where for where, _ in names.values()] + list(aliases.values()):
+            behind = reached.room_of(other)[0] if "declared" not in other and other.split(".")[0] in CRATES else room
+            if (room, name) in reached_files() and reached.room_of(other) in reached_files() and first <= place[room] < place[behind]:
+                say(page, 0, f"{room}/specs/{name} stands on {behind}, which is further down in the table")
 
 
 def stands_on():

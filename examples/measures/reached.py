@@ -175,6 +175,12 @@ class Definitions:
                 self.reach_rust(key[0], key[1], word)
 
 
+def room_of(module):
+    """The room of a module of definitions, or its crate, and its own name."""
+    parts = module.split(".")
+    return (parts[-2] if parts[-2] != "specs" else parts[0], parts[-1])
+
+
 class Total:
     """What the contracts reach, counted: of `headline` the two clauses on the pass form alone."""
 
@@ -190,7 +196,7 @@ class Total:
         self.definitions = len(all.reached)
         self.lines, self.types = sum(self.by_crate.values()), sum(self.types_by_crate.values())
         # the files, each by its room (or its crate) and its own name
-        self.files = {(module.split(".")[-2] if module.split(".")[-2] != "specs" else module.split(".")[0], module.split(".")[-1]) for module in modules}
+        self.files = {room_of(module) for module in modules}
         self.file_lines = sum(len(all.modules[module][0]) - 1 for module in modules)
 
 
