@@ -147,7 +147,7 @@ def test_names(page):
         for name, room in re.findall(r"`([\w:]+)`(?: of| in) `?(j\w+(?:::\w+)?)`?", line):
             if room.split("::")[0] in CRATES or room in ROOMS:
                 counts["names"] += 1
-                if not re.search(rf"(?<!\w){name.split('::')[-1]}(?!\w)", text_of(room)):
+                if not re.search(rf"(?<!\w){name.split('::')[-1]}(?!\w)", text_of("jdriver" if room == "javasec" else room)):
                     say(page, number, f"no {name} in {room}")
         if re.search(r"\b(?:who may name|may name (?:it|them)|nobody (?:may )?names?|(?:is|are) named by `?j\w+`? alone)\b", line):
             say(page, number, "says who may name a room")
@@ -196,6 +196,18 @@ def test_rows():
     for name in clauses(top):
         if name not in said:
             say(page, 0, f"no row for the clause {name} of javasec")
+
+
+def test_promises(page):
+    """The clauses that README names stand in contracts of the calls behind them."""
+    for head, number, cells in tables(page):
+        if head == ("promise", "clause"):
+            for names, call in re.findall(r"((?:`\w+`(?:, )?)+) of `(\w+)`", cells[1]):
+                heads = [head for room in CRATES for head in contract(room, call)]
+                for name in re.findall(r"`(\w+)`", names):
+                    counts["clauses"] += 1
+                    if not any(name in clauses(head) for head in heads):
+                        say(page, number, f"{call} has no clause {name}")
 
 
 def test_row(page, number, cells):
@@ -391,6 +403,7 @@ def main():
         test_paths(page)
         test_names(page)
     test_rows()
+    test_promises("README.md")
     test_quotes()
     test_counts()
     test_map()
