@@ -388,7 +388,7 @@ def cited():
 def long_sentences(page):
     for number, line in outside_blocks(page):
         for cell in re.split(r"\s\|\s|^\| | \|$", line):
-            for sentence in re.split(r"(?<=[.!?])\s+", cell):
+            for sentence in re.split(r"(?<=[.!?])[*)]*\s+", cell):
                 words = [w for w in sentence.split() if re.search(r"\w", w)]
                 if len(words) > 30:
                     print(f"{page}:{number}: {len(words)} words: {sentence[:100]}")
