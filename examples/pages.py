@@ -115,7 +115,7 @@ def test_paths(page):
             counts["paths"] += 1
             if not is_there(os.path.join(here, path)):
                 say(page, number, f"no path {path}")
-        for span in re.finditer(r"`(j\w+)/specs/((?:\w+/)*\w+)`(?:, `\w+`)*(?: \((`[^)]*`)\))?", line):
+        for span in re.finditer(r"`(j\w+)/specs/((?:\w+/)*\w+)(?:\.antt)?`(?:, `\w+`)*(?: \((`[^)]*`)\))?", line):
             room, module, names = span.groups()
             path = module_path(room, module)
             counts["paths"] += 1
@@ -394,6 +394,27 @@ def long_sentences(page):
                     print(f"{page}:{number}: {len(words)} words: {sentence[:100]}")
 
 
+def test_bodies():
+    """The rows of WRONG_BODIES that name a file: its crate has that file, and the text stands in it."""
+    page = "docs/WRONG_BODIES.md"
+    for number, line in enumerate(read(page).split("\n"), 1):
+        row = [cell.strip().removesuffix(" |") for cell in line.split(" | ")]
+        found = re.fullmatch(r"\| `(\w+)/\w+`", row[0])
+        if not found:
+            continue
+        counts["bodies"] += 1
+        crate = found.group(1)
+        if crate not in CRATES:
+            say(page, number, f"no crate {crate}")
+        elif len(row) == 5:
+            path = f"crates/{crate}/{row[1].strip('`')}"
+            old = row[3].removeprefix("`").removesuffix("`").replace("\\|", "|")
+            if not is_there(path):
+                say(page, number, f"no path {path}")
+            elif old not in read(path):
+                say(page, number, f"not in {path}: {old.strip()[:60]}")
+
+
 def main():
     if sys.argv[1:2] == ["long"]:
         for page in sys.argv[2:] or PAGES:
@@ -407,6 +428,7 @@ def main():
     test_quotes()
     test_counts()
     test_map()
+    test_bodies()
     for line in wrong:
         print(line)
     if wrong:
