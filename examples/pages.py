@@ -1,15 +1,18 @@
 #!/usr/bin/env python3
 """pages.py: tests what pages say of this tree: docs/*.md, README.md, examples/README.md. `python3 examples/pages.py`, from anywhere.
 
-- Each path is there: one that begins with crates/, docs/, examples/ or .ci/, and `ROOM/specs/MODULE` with the names that stand in brackets
-  behind it.
+- Each path is there: one that begins with crates/, docs/, examples/ or .ci/, and `ROOM/specs/MODULE` with the names in brackets behind it.
 - Each word that looks like a crate or a room is one; `CRATE::ROOM` too. `NAME` of ROOM stands in that room.
 - Each clause that a row of THEOREMS names stands in the contract of each call of the row; a row without a name speaks of a call that has one
   clause. The clauses of `javasec` are all in its table. What is quoted stands in the tree, letter for letter.
 - Counts of crates, of definitions and of their lines are what the tree has; the files to be read are those that `reached.py` reaches.
+- MAP has one row for each crate and each room, storeys in which each crate stands on its own and lower ones, who stands on the kit's crates, and
+  who cites whose lemmas.
+- The rows of WRONG_BODIES that name a file have a crate with that file, in which the text stands.
 - No page says who may name a room.
 
-It prints what is wrong and ends with status 1, or prints a line of counts. `pages.py long` prints the sentences of more than 30 words instead."""
+It prints what is wrong and ends with status 1, or prints a line of counts. `pages.py long [PAGE..]` prints the sentences of more than 30 words
+instead."""
 import collections, functools, glob, os, re, sys
 
 ROOT = os.path.normpath(os.path.join(os.path.dirname(os.path.abspath(__file__)), ".."))
@@ -17,16 +20,14 @@ sys.path.insert(0, os.path.join(ROOT, "examples", "measures"))
 sys.dont_write_bytecode = True
 import reached
 
-PAGES = [p for p in ["README.md", "examples/README.md"] + sorted(glob.glob("docs/*.md", root_dir=ROOT))]
+PAGES = ["README.md", "examples/README.md"] + sorted(glob.glob("docs/*.md", root_dir=ROOT))
+MAP, THEOREMS, WRONG_BODIES = "docs/MAP.md", "docs/THEOREMS.md", "docs/WRONG_BODIES.md"
 # words that look like rooms and are none
-WORDS = {"java", "javac", "javap", "javasec", "javax", "jar", "job", "jobs", "join", "joins", "joined", "joining", "jump", "jumps", "jumped", "just", "judge",
-         "judges", "judged", "judging", "jvms", "json", "jlong", "jint", "jdk", "jit", "jsr", "jsr_w", "jcmd", "jdeps", "jobfile", "jmod", "july", "june"}
+WORDS = set(
+    "jar java javac javap javasec javax jcmd jdeps jmod job jobs join joined joining joins judge judged judges jump jumped jumps just jvms jsr jsr_w".split()
+)
+WHO = re.compile(r"\b(?:who may name|may name (?:it|them)|nobody (?:may )?names?|(?:is|are) named by `?j\w+`? alone)\b")
 wrong, counts = [], collections.Counter()
-
-
-def read(path):
-    with open(os.path.join(ROOT, path), encoding="utf-8") as file:
-        return file.read()
 
 
 def say(page, number, what):
@@ -36,268 +37,27 @@ def say(page, number, what):
 # ---- the tree
 
 
-def rooms_of(crate):
-    """The rooms of a crate of several: the public modules that its head names; none where it is a room by itself."""
-    path = f"crates/{crate}/src/lib.rt"
-    if not os.path.exists(os.path.join(ROOT, path)):
-        return []
-    text = read(path)
-    return re.findall(r"^pub mod (\w+);", text, re.M) if " as rooms:" in re.sub(r"\n//! ", " ", text) else []
-
-
-CRATES = sorted(os.listdir(os.path.join(ROOT, "crates")))
-ROOMS = {room: crate for crate in CRATES for room in rooms_of(crate)}
-
-
-def sources(room):
-    """The files of code, of definitions and of proofs of a crate or of a room."""
-    crate, inner = (room.split("::") + [""])[:2] if "::" in room else (ROOMS.get(room, room), room if room in ROOMS else "")
-    base = os.path.join(ROOT, "crates", crate)
-    found = glob.glob(f"{base}/*/**/*.rt", recursive=True) + glob.glob(f"{base}/*/**/*.antt", recursive=True)
-    if not inner:
-        return found
-    proofs = "".join(part.capitalize() for part in inner.split("_")) + "Proofs"
-    return [p for p in found if re.search(rf"^[^/]+/({inner}|{proofs})[/.]", os.path.relpath(p, base))]
-
-
-def functions():
-    found = set()
-    for path in glob.glob(f"{ROOT}/crates/*/src/**/*.rt", recursive=True):
-        found |= set(re.findall(r"\bfn (j\w+)", open(path, encoding="utf-8").read()))
-    return found
-
-
-FUNCTIONS = functions()
-TEXTS = {}
-
-
-def text_of(room):
-    if room not in TEXTS:
-        files = sources(room)
-        TEXTS[room] = " ".join(files) + "\n" + "\n".join(open(p, encoding="utf-8").read() for p in files)
-    return TEXTS[room]
-
-
-def module_path(crate_or_room, module):
-    if crate_or_room in ROOMS:
-        return f"crates/{ROOMS[crate_or_room]}/specs/{crate_or_room}/{module}.antt"
-    return f"crates/{crate_or_room}/specs/{module}.antt"
-
-
-def is_there(path):
-    return bool(glob.glob(os.path.join(ROOT, path))) or os.path.exists(os.path.join(ROOT, path))
-
-
-# ---- paths and names
-
-
-def outside_blocks(page):
-    """The lines of a page that aren't quoted, with their numbers."""
-    fenced = False
-    for number, line in enumerate(read(page).split("\n"), 1):
-        if line.startswith("```"):
-            fenced = not fenced
-        elif not fenced and not line.startswith("    "):
-            yield number, line
-
-
-def test_paths(page):
-    here = os.path.dirname(page)
-    for number, line in enumerate(read(page).split("\n"), 1):
-        for path in re.findall(r"(?<![\w/.$~])((?:crates|docs|examples|\.ci)/[\w./*\-]+)", line):
-            path = path.rstrip(".,")
-            if re.search(r"\b[A-Z]{3,}\b(?!\.md)", path.replace(".md", ".md")) and not path.endswith(".md") or "/out/" in path or ".." in path:
-                continue
-            counts["paths"] += 1
-            if not is_there(path) and not is_there(path + ".antt"):
-                say(page, number, f"no path {path}")
-        for path in re.findall(r"\]\(([^)#:]+)(?:#[^)]*)?\)", line):
-            counts["paths"] += 1
-            if not is_there(os.path.join(here, path)):
-                say(page, number, f"no path {path}")
-        for span in re.finditer(r"`(j\w+)/specs/((?:\w+/)*\w+)(?:\.antt)?`(?:, `\w+`)*(?: \((`[^)]*`)\))?", line):
-            room, module, names = span.groups()
-            path = module_path(room, module)
-            counts["paths"] += 1
-            if not is_there(path):
-                say(page, number, f"no module {room}/specs/{module}")
-                continue
-            for name in re.findall(r"`(\w+)`", names or ""):
-                counts["names"] += 1
-                if not re.search(rf"(?<!\w){name}(?!\w)", re.sub(r"(?m)^use .*|--.*", "", read(path))):
-                    say(page, number, f"no {name} in {room}/specs/{module}")
-        if page == "examples/README.md":
-            for path in re.findall(r"`([\w/]+\.(?:sh|py))\b", line):
-                counts["paths"] += 1
-                if not is_there(os.path.join(here, path)):
-                    say(page, number, f"no path {path}")
-
-
-def test_names(page):
-    for number, line in outside_blocks(page):
-        for word in re.findall(r"(?<![\w/.$:\-])(j[a-z_]*[a-z])(?![\w(]|\.\w|/\w|-\w)", line):
-            if word in CRATES or word in ROOMS:
-                counts["rooms"] += 1
-                for name in re.findall(rf"(?<![\w/.]){word}::(\w+)", line):
-                    counts["names"] += 1
-                    if not re.search(rf"(?<!\w){name}(?!\w)", text_of(word)):
-                        say(page, number, f"no {word}::{name}")
-            elif word not in WORDS and word not in FUNCTIONS:
-                say(page, number, f"no crate or room {word}")
-        for name, room in re.findall(r"`([\w:]+)`(?: of| in) `?(j\w+(?:::\w+)?)`?", line):
-            if room.split("::")[0] in CRATES or room in ROOMS:
-                counts["names"] += 1
-                if not re.search(rf"(?<!\w){name.split('::')[-1]}(?!\w)", text_of("jdriver" if room == "javasec" else room)):
-                    say(page, number, f"no {name} in {room}")
-        if re.search(r"\b(?:who may name|may name (?:it|them)|nobody (?:may )?names?|(?:is|are) named by `?j\w+`? alone)\b", line):
-            say(page, number, "says who may name a room")
-
-
-# ---- clauses
-
-
-def contract(room, call):
-    """The contracts of the public functions of a name in a room."""
-    owner, _, name = call.rpartition("::")
-    found = []
-    for path in sources(room):
-        if not path.endswith(".rt"):
-            continue
-        text = open(path, encoding="utf-8").read()
-        for head in re.finditer(rf"^( *)pub fn {name}\b.*?^\1\{{", text, re.S | re.M):
-            if owner and not re.findall(rf"^impl(?:<[^>]*>)? (?:\w+ for )?{owner}\b", text[: head.start()], re.M):
-                continue
-            found.append(head.group(0))
-    return found
-
-
-def clauses(head):
-    return re.findall(r"^\s*ensures(?: (\w+))? \{", head, re.M)
-
-
-def test_rows():
-    page, table = "docs/THEOREMS.md", None
-    top = contract("jdriver", "javasec")[0]
-    said = set()
-    for number, line in enumerate(read(page).split("\n"), 1):
-        cells = [cell.strip() for cell in re.split(r"(?<!\\)\|", line)[1:-1]]
-        if not cells:
-            table = None
-        elif table is None:
-            table = cells
-        elif table[:2] == ["clause", "in plain words"]:
-            for name in re.findall(r"`(\w+)`", cells[0]):
-                said.add(name)
-                counts["clauses"] += 1
-                if name not in clauses(top):
-                    say(page, number, f"javasec has no clause {name}")
-        elif table[1:2] == ["public call"] and not set(cells[0]) <= set("-"):
-            test_row(page, number, cells)
-    for name in clauses(top):
-        if name not in said:
-            say(page, 0, f"no row for the clause {name} of javasec")
-
-
-def test_promises(page):
-    """The clauses that README names stand in contracts of the calls behind them."""
-    for head, number, cells in tables(page):
-        if head == ("promise", "clause"):
-            for names, call in re.findall(r"((?:`\w+`(?:, )?)+) of `(\w+)`", cells[1]):
-                heads = [head for room in CRATES for head in contract(room, call)]
-                for name in re.findall(r"`(\w+)`", names):
-                    counts["clauses"] += 1
-                    if not any(name in clauses(head) for head in heads):
-                        say(page, number, f"{call} has no clause {name}")
-
-
-def test_row(page, number, cells):
-    rooms = re.findall(r"[\w:]+", cells[3])
-    for call in re.findall(r"`([\w:]+)`", cells[1]):
-        heads = [head for room in rooms for head in contract(room, call)]
-        if not heads:
-            say(page, number, f"no public call {call} in {', '.join(rooms)}")
-        for name in re.findall(r"`(\w+)`", cells[2]):
-            counts["clauses"] += 1
-            if heads and not any(name in clauses(head) for head in heads):
-                say(page, number, f"{call} has no clause {name}")
-        if not cells[2] and heads and not any(clauses(head) == [""] for head in heads):
-            say(page, number, f"{call} has clauses with names, and the row names none")
-    for room in rooms:
-        if room not in CRATES and room not in ROOMS and "::" not in room:
-            say(page, number, f"no crate or room {room}")
-
-
-def test_quotes():
-    """Each line that THEOREMS quotes stands in a definition or in a contract."""
-    page = "docs/THEOREMS.md"
-    lines = {" ".join(line.split()) for path in glob.glob(f"{ROOT}/crates/j*/src/**/*.rt", recursive=True) + glob.glob(f"{ROOT}/crates/j*/specs/**/*.antt", recursive=True) for line in open(path, encoding="utf-8")}
-    for number, line in enumerate(read(page).split("\n"), 1):
-        if line.startswith("    "):
-            counts["quotes"] += 1
-            if " ".join(line.split()) not in lines:
-                say(page, number, f"not in the tree: {line.strip()[:80]}")
-
-
-# ---- counts
-
-
-def number_of(text):
-    return int(text.replace(",", ""))
-
-
-def test_counts():
-    whole, headline = reached.total([]), reached.total(["headline"])
-    known = {
-        r"([\d,]+) crates\b": [len(CRATES)],
-        r"([\d,]+) definitions\b": [whole.definitions, headline.definitions],
-        r"definitions of ([\d,]+) lines": [whole.lines, headline.lines],
-        r"types (?:of|in|have) ([\d,]+) lines": [whole.types, headline.types],
-        r"whole files have ([\d,]+) lines": [whole.file_lines],
-    }
-    for page in ("README.md", "docs/MAP.md", "docs/THEOREMS.md"):
-        for number, line in outside_blocks(page):
-            for pattern, values in known.items():
-                for found in re.findall(pattern, line):
-                    counts["counts"] += 1
-                    if number_of(found) not in values:
-                        say(page, number, f"{found} is {' or '.join(map(str, values))} in this tree ({pattern})")
-    test_files(whole)
-
-
-def test_files(whole):
-    """The tables of files in THEOREMS name the modules that the contracts reach, and no others; those of a law only what is further."""
-    page, said = "docs/THEOREMS.md", collections.defaultdict(dict)
-    for head, number, cells in tables(page):
-        if head[-1] == "room: files":
-            law = cells[1].strip("`") if len(cells) == 3 else ""
-            for part in cells[-1].split("; "):
-                room, names = part.split(": ", 1)
-                said[law].update({(room.split("::")[-1], name): number for name in re.findall(r"\w+", names)})
-    for law in ["", *reached.LAWS]:
-        files = reached.total([law]).files - whole.files if law else whole.files
-        for room, name in sorted(said[law].keys() - files):
-            say(page, said[law][room, name], f"{law or 'the top call'} reaches nothing of {room}/specs/{name}")
-        for room, name in sorted(files - said[law].keys()):
-            say(page, 0, f"{law or 'the top call'} reaches {room}/specs/{name}, which the table doesn't name")
-        counts["files"] += len(said[law])
-    test_order(page, [room for room, _ in said[""]])
+@functools.cache
+def read(path):
+    with open(os.path.join(ROOT, path), encoding="utf-8") as file:
+        return file.read()
 
 
 @functools.cache
-def reached_files():
-    return reached.total([]).files
+def find(pattern):
+    """The files of a pattern, as paths from the top, without what was built."""
+    return [path for path in sorted(glob.glob(pattern, root_dir=ROOT, recursive=True)) if "/out/" not in path]
 
 
-def test_order(page, rooms):
-    """Behind the rooms of the first row each file to be read imports files of its own room and of rooms before it."""
-    place = {room: k for k, room in reversed(list(enumerate(rooms)))}
-    first = place["jbase"]
-    for module, (_, _, (names, aliases)) in reached.Definitions().modules.items():
-        room, name = reached.room_of(module)
-        for other in [where for where, _ in names.values()] + list(aliases.values()):
-            behind = reached.room_of(other)[0] if "declared" not in other and other.split(".")[0] in CRATES else room
-            if (room, name) in reached_files() and reached.room_of(other) in reached_files() and first <= place[room] < place[behind]:
-                say(page, 0, f"{room}/specs/{name} stands on {behind}, which is further down in the table")
+def is_there(path):
+    return bool(glob.glob(os.path.join(ROOT, path)))
+
+
+def rooms_of(crate):
+    """The rooms of a crate of several: the public modules behind a head that speaks of rooms; none where the crate is a room by itself."""
+    path = f"crates/{crate}/src/lib.rt"
+    text = read(path) if is_there(path) else ""
+    return re.findall(r"^pub mod (\w+);", text, re.M) if " as rooms:" in text.replace("\n//! ", " ") else []
 
 
 def stands_on():
@@ -305,114 +65,333 @@ def stands_on():
     return {line.split(":")[0]: line.split(":")[1].split() for line in lines if ":" in line}
 
 
+ON = stands_on()
+CRATES = sorted(path.split("/")[1] for path in glob.glob("crates/*/src", root_dir=ROOT))
+ROOMS = {room: crate for crate in CRATES for room in rooms_of(crate)}
+
+
+@functools.cache
+def sources(room):
+    """The files of code, of definitions and of proofs of a crate or of a room."""
+    crate, _, inner = room.partition("::")
+    crate, inner = (ROOMS[room], room) if room in ROOMS else (crate, inner)
+    found = find(f"crates/{crate}/*/**/*.rt") + find(f"crates/{crate}/*/**/*.antt")
+    proofs = "".join(part.capitalize() for part in inner.split("_")) + "Proofs"
+    return [path for path in found if not inner or re.match(rf"crates/{crate}/[^/]+/({inner}|{proofs})[/.]", path)]
+
+
+@functools.cache
+def text_of(room):
+    return "\n".join(path + "\n" + read(path) for path in sources(room))
+
+
+@functools.cache
+def functions():
+    return {name for path in find("crates/*/src/**/*.rt") for name in re.findall(r"\bfn (j\w+)", read(path))}
+
+
+def stands_in(name, text):
+    return re.search(rf"(?<!\w){name}(?!\w)", text) is not None
+
+
+# ---- pages
+
+
+def lines_of(page):
+    return enumerate(read(page).split("\n"), 1)
+
+
+def outside_blocks(page):
+    """The lines of a page that aren't quoted, with their numbers."""
+    fenced = False
+    for number, line in lines_of(page):
+        if line.startswith("```"):
+            fenced = not fenced
+        elif not fenced and not line.startswith("    "):
+            yield number, line
+
+
 def tables(page):
-    """The rows of a page's tables, by the heads of these tables."""
+    """The rows of a page's tables, each with the head of its table and its number."""
     head = None
-    for number, line in enumerate(read(page).split("\n"), 1):
-        cells = tuple(cell.strip() for cell in line.split("|")[1:-1])
+    for number, line in lines_of(page):
+        cells = tuple(cell.strip() for cell in re.split(r"(?<!\\)\|", line)[1:-1])
         if not cells:
             head = None
         elif head is None:
             head = cells
-        elif not set(cells[0]) <= set("-") or not cells[0]:
+        elif not re.fullmatch("-+", cells[0]):
             yield head, number, cells
 
 
-def test_map():
-    """MAP has one row for each crate and each room; a crate stands on its own storey and those below; who stands on the kit, who cites."""
-    page, on, said, kit, cites = "docs/MAP.md", stands_on(), collections.Counter(), {}, cited()
-    crate = None
-    for head, number, cells in tables(page):
-        if head == ("crate", "room", "for"):
-            counts["rows"] += 1
-            if cells[0].startswith("**"):
+# ---- paths and names
+
+
+def test_paths(page):
+    here = os.path.dirname(page)
+    for number, line in lines_of(page):
+        paths = re.findall(r"\]\(([^)#:]+)(?:#[^)]*)?\)", line)
+        if page == "examples/README.md":
+            paths += re.findall(r"`([\w/]+\.(?:sh|py))\b", line)
+        paths = [os.path.join(here, path) for path in paths]
+        for path in re.findall(r"(?<![\w/.$~])((?:crates|docs|examples|\.ci)/[\w./*\-]+)", line):
+            # CRATE, ROOM and their like stand for a name
+            if path.endswith(".md") or not (re.search(r"\b[A-Z]{3,}\b", path) or "/out/" in path or ".." in path):
+                paths.append(path.rstrip(".,"))
+        for path in paths:
+            counts["paths"] += 1
+            if not is_there(path) and not is_there(path + ".antt"):
+                say(page, number, f"no path {path}")
+        test_modules(page, number, line)
+
+
+def test_modules(page, number, line):
+    for span in re.finditer(r"`(j\w+)/specs/((?:\w+/)*\w+)(?:\.antt)?`(?:, `\w+`)*(?: \((`[^)]*`)\))?", line):
+        room, module, names = span.groups()
+        path = f"crates/{ROOMS[room]}/specs/{room}/{module}.antt" if room in ROOMS else f"crates/{room}/specs/{module}.antt"
+        counts["paths"] += 1
+        if not is_there(path):
+            say(page, number, f"no module {room}/specs/{module}")
+            continue
+        for name in re.findall(r"`(\w+)`", names or ""):
+            counts["names"] += 1
+            if not stands_in(name, re.sub(r"(?m)^use .*|--.*", "", read(path))):
+                say(page, number, f"no {name} in {room}/specs/{module}")
+
+
+def test_names(page):
+    for number, line in outside_blocks(page):
+        for word in re.findall(r"(?<![\w/.$:\-])(j[a-z_]*[a-z])(?![\w(]|\.\w|/\w|-\w)", line):
+            if word not in CRATES and word not in ROOMS:
+                if word not in WORDS and word not in functions():
+                    say(page, number, f"no crate or room {word}")
                 continue
-            if cells[0]:
-                crate = cells[0]
-                said[crate] += 1
-            else:
-                room = cells[1].strip("`").split("::")
-                said[room[-1]] += 1
-                if ROOMS.get(room[-1]) != crate or (len(room) > 1) != crate.endswith("_laws"):
-                    say(page, number, f"no room {cells[1]} of {crate}")
+            counts["rooms"] += 1
+            for name in re.findall(rf"(?<![\w/.]){word}::(\w+)", line):
+                if not stands_in(name, text_of(word)):
+                    say(page, number, f"no {word}::{name}")
+        for name, room in re.findall(r"`([\w:]+)`(?: of| in) `?(j\w+(?:::\w+)?)`?", line):
+            if room.split("::")[0] in CRATES or room in ROOMS:
+                counts["names"] += 1
+                if not stands_in(name.split("::")[-1], text_of("jdriver" if room == "javasec" else room)):
+                    say(page, number, f"no {name} in {room}")
+        if WHO.search(line):
+            say(page, number, "says who may name a room")
+
+
+# ---- clauses
+
+
+@functools.cache
+def contracts(room, call):
+    """The names of the clauses of the public functions of a name in a room, a list each; "" is a clause without a name."""
+    owner, _, name = call.rpartition("::")
+    found = []
+    for path in sources(room):
+        for head in re.finditer(rf"^( *)pub fn {name}\b.*?^\1\{{", read(path), re.S | re.M) if path.endswith(".rt") else []:
+            if not owner or re.search(rf"^impl(?:<[^>]*>)? (?:\w+ for )?{owner}\b", read(path)[: head.start()], re.M):
+                found.append(re.findall(r"^\s*ensures(?: (\w+))? \{", head.group(0), re.M))
+    return found
+
+
+def test_clauses():
+    top, said = contracts("jdriver", "javasec")[0], set()
+    for head, number, cells in tables(THEOREMS):
+        if head == ("clause", "in plain words"):
+            for name in re.findall(r"`(\w+)`", cells[0]):
+                said.add(name)
+                counts["clauses"] += 1
+                if name not in top:
+                    say(THEOREMS, number, f"javasec has no clause {name}")
+        elif head[1:] == ("public call", "clause", "crate"):
+            test_row(number, cells)
+    for name in top:
+        if name not in said:
+            say(THEOREMS, 0, f"no row for the clause {name} of javasec")
+    for head, number, cells in tables("README.md"):
+        if head == ("promise", "clause"):
+            for names, call in re.findall(r"((?:`\w+`(?:, )?)+) of `(\w+)`", cells[1]):
+                test_call("README.md", number, call, CRATES, re.findall(r"`(\w+)`", names))
+
+
+def test_row(number, cells):
+    rooms = re.findall(r"[\w:]+", cells[3])
+    for call in re.findall(r"`([\w:]+)`", cells[1]):
+        test_call(THEOREMS, number, call, rooms, re.findall(r"`(\w+)`", cells[2]) or [""])
+    for room in rooms:
+        if room.split("::")[0] not in CRATES and room not in ROOMS:
+            say(THEOREMS, number, f"no crate or room {room}")
+
+
+def test_call(page, number, call, rooms, names):
+    found = [clauses for room in rooms for clauses in contracts(room, call)]
+    if not found:
+        say(page, number, f"no public call {call} in {', '.join(rooms)}")
+        return
+    for name in names:
+        counts["clauses"] += 1
+        if not any(name in clauses if name else clauses == [""] for clauses in found):
+            say(page, number, f"{call} has no clause {name}" if name else f"{call} has clauses with names, and the row names none")
+
+
+def test_quotes():
+    """Each line that THEOREMS quotes stands in a definition or in a contract."""
+    files = find("crates/j*/src/**/*.rt") + find("crates/j*/specs/**/*.antt")
+    lines = {" ".join(line.split()) for path in files for line in read(path).split("\n")}
+    for number, line in lines_of(THEOREMS):
+        if line.startswith("    "):
+            counts["quotes"] += 1
+            if " ".join(line.split()) not in lines:
+                say(THEOREMS, number, f"not in the tree: {line.strip()[:80]}")
+
+
+# ---- counts, and the files to be read
+
+
+@functools.cache
+def total(*words):
+    return reached.total(list(words))
+
+
+def test_counts():
+    whole, headline = total(), total("headline")
+    known = {
+        r"([\d,]+) crates\b": [len(CRATES)],
+        r"([\d,]+) definitions\b": [whole.definitions, headline.definitions],
+        r"definitions of ([\d,]+) lines": [whole.lines, headline.lines],
+        r"types (?:of|in|have) ([\d,]+) lines": [whole.types, headline.types],
+        r"whole files have ([\d,]+) lines": [whole.file_lines],
+    }
+    for page in ("README.md", MAP, THEOREMS):
+        for number, line in outside_blocks(page):
+            for pattern, values in known.items():
+                for found in re.findall(pattern, line):
+                    counts["counts"] += 1
+                    if int(found.replace(",", "")) not in values:
+                        say(page, number, f"{found} is {' or '.join(map(str, values))} in this tree ({pattern})")
+
+
+def test_files():
+    """The tables of files in THEOREMS name the modules that the contracts reach, and no others; those of a law only what is further."""
+    said = collections.defaultdict(dict)
+    for head, number, cells in tables(THEOREMS):
+        if head[-1] == "room: files":
+            law = cells[1].strip("`") if len(cells) == 3 else ""
+            for part in cells[-1].split("; "):
+                room, names = part.split(": ", 1)
+                said[law].update({(room.split("::")[-1], name): number for name in re.findall(r"\w+", names)})
+    for law in ["", *reached.LAWS]:
+        files = total(law).files - total().files if law else total().files
+        for room, name in sorted(said[law].keys() - files):
+            say(THEOREMS, said[law][room, name], f"{law or 'the top call'} reaches nothing of {room}/specs/{name}")
+        for room, name in sorted(files - said[law].keys()):
+            say(THEOREMS, 0, f"{law or 'the top call'} reaches {room}/specs/{name}, which the table doesn't name")
+        counts["files"] += len(said[law])
+    test_order(list(dict.fromkeys(room for room, _ in said[""])))
+
+
+def test_order(rooms):
+    """From the row of the base on each file to be read imports files of its own room and of rooms before it."""
+    for module, (_, _, (names, aliases)) in reached.Definitions().modules.items():
+        here = reached.room_of(module)
+        for other in [where for where, _ in names.values()] + list(aliases.values()):
+            there = reached.room_of(other) if other.split(".")[0] in CRATES and "declared" not in other else here
+            if here in total().files and there in total().files and here[0] in rooms and there[0] in rooms:
+                if rooms.index("jbase") <= rooms.index(here[0]) < rooms.index(there[0]):
+                    say(THEOREMS, 0, f"{'/specs/'.join(here)} imports of {there[0]}, which is further down in the table")
+
+
+# ---- the map
+
+
+def test_map():
+    said, kit, cites, crate = collections.Counter(), set(), cited(), None
+    for head, number, cells in tables(MAP):
+        if head == ("crate", "room", "for") and not cells[0].startswith("**"):
+            crate, room = cells[0] or crate, cells[1].strip("`").split("::")
+            said[cells[0] or room[-1]] += 1
+            if not cells[0] and (ROOMS.get(room[-1]) != crate or (len(room) > 1) != crate.endswith("_laws")):
+                say(MAP, number, f"no room {cells[1]} of {crate}")
         elif head == ("crate", "for", "stands below"):
             for name in re.findall(r"`(\w+)`", cells[0]):
-                kit[name] = re.findall(r"\w+", cells[2])
-                if sorted(kit[name]) != sorted(c for c in on if name in on[c]):
-                    say(page, number, f"{name} stands below {', '.join(c for c in on if name in on[c])}")
+                kit.add(name)
+                above = [other for other in ON if name in ON[other]]
+                if sorted(re.findall(r"\w+", cells[2])) != sorted(above):
+                    say(MAP, number, f"{name} stands below {', '.join(above)}")
         elif head == ("lemmas of", "cited most by"):
             for name in re.findall(r"\w+", cells[0]):
-                named = [c for c in re.findall(r"\w+", cells[1]) if c in CRATES]
-                more = re.search(r"and (\d+) more", cells[1])
-                counts["citations"] += len(named)
-                for other in named:
-                    if other not in cites[name]:
-                        say(page, number, f"{other} cites no lemma of {name}")
-                if more and len(cites[name]) != len(named) + int(more.group(1)):
-                    say(page, number, f"lemmas of {name} are cited by {len(cites[name])} crates")
+                test_cited(number, name, cells[1], cites.get(name, set()))
     for name in CRATES + list(ROOMS):
+        counts["rows"] += said[name]
         if said[name] != 1:
-            say(page, 0, f"{said[name]} rows for {name}")
-    for name in sorted({n for c in on for n in on[c] if n not in CRATES} - set(kit)):
-        say(page, 0, f"no row for {name} of the kit")
-    test_storeys(page, on)
+            say(MAP, 0, f"{said[name]} rows for {name}")
+    for name in sorted({other for crate in ON for other in ON[crate]} - set(CRATES) - kit):
+        say(MAP, 0, f"no row for {name} of the kit")
 
 
-def test_storeys(page, on):
-    known, storey = set(), []
-    for head, number, cells in list(tables(page)) + [(("crate", "room", "for"), 0, ("**end**", "", ""))]:
-        if head != ("crate", "room", "for"):
-            continue
-        if cells[0].startswith("**"):
-            known |= {name for name, _ in storey}
-            for name, where in storey:
-                for other in on.get(name, []):
-                    if other in CRATES and other not in known:
-                        say(page, where, f"{name} stands on {other}, which is on a storey above")
-            storey = []
-        elif cells[0]:
-            storey.append((cells[0], number))
+def test_cited(number, name, cell, by):
+    named = [word for word in re.findall(r"\w+", cell) if word in CRATES]
+    more = re.search(r"and (\d+) more", cell)
+    counts["citations"] += len(named)
+    for other in named:
+        if other not in by:
+            say(MAP, number, f"{other} cites no lemma of {name}")
+    if more and len(by) != len(named) + int(more.group(1)):
+        say(MAP, number, f"lemmas of {name} are cited by {len(by)} crates")
 
 
 def cited():
-    """By crate: the crates whose proofs or code cite its lemmas."""
+    """By crate: the other crates whose proofs or code cite its lemmas."""
     found = collections.defaultdict(set)
-    for path in glob.glob(f"{ROOT}/crates/*/**/*.antt", recursive=True) + glob.glob(f"{ROOT}/crates/*/**/*.rt", recursive=True):
-        crate = os.path.relpath(path, ROOT).split(os.sep)[1]
-        text = open(path, encoding="utf-8").read()
-        for other in re.findall(r"^\s*(?:ghost )?use Rattle\.(\w+)\.proofs\b|\b(j\w+)::proofs::", text, re.M):
-            found["".join(other)].add(crate)
+    for path in find("crates/*/*/**/*.antt") + find("crates/*/*/**/*.rt"):
+        for pair in re.findall(r"^\s*(?:ghost )?use Rattle\.(\w+)\.proofs\b|\b(j\w+)::proofs::", read(path), re.M):
+            found["".join(pair)].add(path.split("/")[1])
     return {name: others - {name} for name, others in found.items()}
+
+
+def test_storeys():
+    """A crate stands on crates of its own storey and of those below it."""
+    storeys = [[]]
+    for head, number, cells in tables(MAP):
+        if head == ("crate", "room", "for") and cells[0].startswith("**"):
+            storeys.append([])
+        elif head == ("crate", "room", "for") and cells[0]:
+            storeys[-1].append((cells[0], number))
+    known = set()
+    for storey in storeys:
+        known |= {name for name, _ in storey}
+        for name, number in storey:
+            for other in set(ON.get(name, [])) & set(CRATES) - known:
+                say(MAP, number, f"{name} stands on {other}, which is on a storey above")
+
+
+# ---- wrong bodies, long sentences
+
+
+def test_bodies():
+    for number, line in lines_of(WRONG_BODIES):
+        row = [cell.strip().removesuffix(" |") for cell in line.split(" | ")]
+        found = re.fullmatch(r"\| `(\w+)/\w+`", row[0])
+        if not found:
+            continue
+        counts["bodies"] += 1
+        path = f"crates/{found.group(1)}/{row[1].strip('`')}"
+        old = row[3].removeprefix("`").removesuffix("`").replace("\\|", "|") if len(row) == 5 else ""
+        if found.group(1) not in CRATES:
+            say(WRONG_BODIES, number, f"no crate {found.group(1)}")
+        elif len(row) == 5 and not is_there(path):
+            say(WRONG_BODIES, number, f"no path {path}")
+        elif len(row) == 5 and old not in read(path):
+            say(WRONG_BODIES, number, f"not in {path}: {old.strip()[:60]}")
 
 
 def long_sentences(page):
     for number, line in outside_blocks(page):
         for cell in re.split(r"\s\|\s|^\| | \|$", line):
             for sentence in re.split(r"(?<=[.!?])[*)]*\s+", cell):
-                words = [w for w in sentence.split() if re.search(r"\w", w)]
-                if len(words) > 30:
-                    print(f"{page}:{number}: {len(words)} words: {sentence[:100]}")
-
-
-def test_bodies():
-    """The rows of WRONG_BODIES that name a file: its crate has that file, and the text stands in it."""
-    page = "docs/WRONG_BODIES.md"
-    for number, line in enumerate(read(page).split("\n"), 1):
-        row = [cell.strip().removesuffix(" |") for cell in line.split(" | ")]
-        found = re.fullmatch(r"\| `(\w+)/\w+`", row[0])
-        if not found:
-            continue
-        counts["bodies"] += 1
-        crate = found.group(1)
-        if crate not in CRATES:
-            say(page, number, f"no crate {crate}")
-        elif len(row) == 5:
-            path = f"crates/{crate}/{row[1].strip('`')}"
-            old = row[3].removeprefix("`").removesuffix("`").replace("\\|", "|")
-            if not is_there(path):
-                say(page, number, f"no path {path}")
-            elif old not in read(path):
-                say(page, number, f"not in {path}: {old.strip()[:60]}")
+                length = len([word for word in sentence.split() if re.search(r"\w", word)])
+                if length > 30:
+                    print(f"{page}:{number}: {length} words: {sentence[:100]}")
 
 
 def main():
@@ -423,18 +402,10 @@ def main():
     for page in PAGES:
         test_paths(page)
         test_names(page)
-    test_rows()
-    test_promises("README.md")
-    test_quotes()
-    test_counts()
-    test_map()
-    test_bodies()
-    for line in wrong:
-        print(line)
-    if wrong:
-        return 1
-    print(f"{len(PAGES)} pages:", ", ".join(f"{n} {what}" for what, n in sorted(counts.items())))
-    return 0
+    for test in (test_clauses, test_quotes, test_counts, test_files, test_map, test_storeys, test_bodies):
+        test()
+    print("\n".join(wrong) or f"{len(PAGES)} pages: " + ", ".join(f"{n} {what}" for what, n in sorted(counts.items())))
+    return 1 if wrong else 0
 
 
 if __name__ == "__main__":
