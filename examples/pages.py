@@ -2,7 +2,8 @@
 """pages.py: tests what pages say of this tree: docs/*.md, README.md, examples/README.md. `python3 examples/pages.py`, from anywhere.
 
 - Each path is there: one that begins with crates/, docs/, examples/ or .ci/, and `ROOM/specs/MODULE` with the names in brackets behind it.
-- Each word that looks like a crate or a room is one; `CRATE::ROOM` too. `NAME` of ROOM stands in that room.
+- Each word that looks like a crate or a room is one; `CRATE::ROOM` too. `NAME` of ROOM stands in that room. A name with a capital stands
+  somewhere in the crates, but for the guide's.
 - Each clause that a row of THEOREMS names stands in the contract of each call of the row; a row without a name speaks of a call that has one
   clause. The clauses of `javasec` are all in its table. What is quoted stands in the tree, letter for letter.
 - Counts of crates, of definitions and of their lines are what the tree has; the files to be read are those that `reached.py` reaches.
@@ -12,7 +13,7 @@
 - No page says who may name a room.
 
 It prints what is wrong and ends with status 1, or prints a line of counts. `pages.py long [PAGE..]` prints the sentences of more than 30 words
-instead."""
+instead, and `pages.py heads` what heads of crates say of what they stand on that isn't so."""
 import collections, functools, glob, os, re, sys
 
 ROOT = os.path.normpath(os.path.join(os.path.dirname(os.path.abspath(__file__)), ".."))
@@ -22,10 +23,11 @@ import reached
 
 PAGES = ["README.md", "examples/README.md"] + sorted(glob.glob("docs/*.md", root_dir=ROOT))
 MAP, THEOREMS, WRONG_BODIES = "docs/MAP.md", "docs/THEOREMS.md", "docs/WRONG_BODIES.md"
+# it names what stands in Java's library alone
+GUIDE = "docs/GUIDE.md"
 # words that look like rooms and are none
-WORDS = set(
-    "jar java javac javap javasec javax jcmd jdeps jmod job jobs join joined joining joins judge judged judges jump jumped jumps just jvms jsr jsr_w".split()
-)
+WORDS = set("jar java javac javap javasec javax jcmd jdeps jmod job jobs join joined joining joins".split())
+WORDS |= set("judge judged judges jump jumped jumps just jvms jsr jsr_w".split())
 WHO = re.compile(r"\b(?:who may name|may name (?:it|them)|nobody (?:may )?names?|(?:is|are) named by `?j\w+`? alone)\b")
 wrong, counts = [], collections.Counter()
 
@@ -88,6 +90,13 @@ def text_of(room):
 @functools.cache
 def functions():
     return {name for path in find("crates/*/src/**/*.rt") for name in re.findall(r"\bfn (j\w+)", read(path))}
+
+
+@functools.cache
+def words():
+    """All words of the crates, and those of their files' names."""
+    paths = find("crates/**/*.rt") + find("crates/**/*.antt")
+    return {word for path in paths for word in re.findall(r"\w+", path + " " + read(path))}
 
 
 def stands_in(name, text):
@@ -175,6 +184,10 @@ def test_names(page):
                 counts["names"] += 1
                 if not stands_in(name.split("::")[-1], text_of("jdriver" if room == "javasec" else room)):
                     say(page, number, f"no {name} in {room}")
+        for name in re.findall(r"`([A-Z][a-z]\w+)`", line) if page != GUIDE else []:
+            counts["names"] += 1
+            if name not in words():
+                say(page, number, f"no {name} in the tree")
         if WHO.search(line):
             say(page, number, "says who may name a room")
 
@@ -394,11 +407,29 @@ def long_sentences(page):
                     print(f"{page}:{number}: {length} words: {sentence[:100]}")
 
 
+def test_heads():
+    """What the heads of crates say that they stand on stands in `crates.txt`."""
+    for crate in CRATES:
+        path = f"crates/{crate}/src/lib.rt"
+        head = re.match(r"(?://![^\n]*\n)*", read(path)).group(0).replace("\n//!", "") if is_there(path) else ""
+        for sentence in re.findall(r"[Ii]t stands on ([^.:;]*)", head):
+            named = [word for word in re.findall(r"\bj\w+", sentence) if word in CRATES or word in ROOMS]
+            for name in named:
+                if ROOMS.get(name, name) not in ON[crate] + [crate]:
+                    say(path, 0, f"stands on no {name}: {' '.join(ON[crate])}")
+            if "alone" in sentence and set(named) != set(ON[crate]) & set(CRATES):
+                say(path, 0, f"stands on more: {' '.join(ON[crate])}")
+
+
 def main():
     if sys.argv[1:2] == ["long"]:
         for page in sys.argv[2:] or PAGES:
             long_sentences(page)
         return 0
+    if sys.argv[1:2] == ["heads"]:
+        test_heads()
+        print("\n".join(wrong))
+        return 1 if wrong else 0
     for page in PAGES:
         test_paths(page)
         test_names(page)
