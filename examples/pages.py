@@ -7,8 +7,8 @@
 - Each clause that a row of THEOREMS names stands in the contract of each call of the row; a row without a name speaks of a call that has one
   clause. The clauses of `javasec` are all in its table. What is quoted stands in the tree, letter for letter.
 - Counts of crates, of definitions and of their lines are what the tree has; the files to be read are those that `reached.py` reaches.
-- MAP has one row for each crate and each room, storeys in which each crate stands on its own and lower ones, who stands on the kit's crates, and
-  who cites whose lemmas.
+- MAP has one row for each crate, which names each room once, storeys in which each crate stands on its own and lower ones, and who
+  stands on the kit's crates.
 - The rows of WRONG_BODIES that name a file have a crate with that file, in which the text stands.
 - No page says who may name a room.
 
@@ -318,22 +318,22 @@ def test_order(rooms):
 
 
 def test_map():
-    said, kit, cites, crate = collections.Counter(), set(), cited(), None
+    said, kit = collections.Counter(), set()
     for head, number, cells in tables(MAP):
-        if head == ("crate", "room", "for") and not cells[0].startswith("**"):
-            crate, room = cells[0] or crate, cells[1].strip("`").split("::")
-            said[cells[0] or room[-1]] += 1
-            if not cells[0] and (ROOMS.get(room[-1]) != crate or (len(room) > 1) != crate.endswith("_laws")):
-                say(MAP, number, f"no room {cells[1]} of {crate}")
+        if head == ("crate", "for") and not cells[0].startswith("**"):
+            crate = cells[0]
+            said[crate] += 1
+            for name in re.findall(r"(?:: |; )`([\w:]+)` ", cells[1]):
+                room = name.split("::")
+                said[room[-1]] += 1
+                if ROOMS.get(room[-1]) != crate or (len(room) > 1) != crate.endswith("_laws"):
+                    say(MAP, number, f"no room {name} of {crate}")
         elif head == ("crate", "for", "stands below"):
             for name in re.findall(r"`(\w+)`", cells[0]):
                 kit.add(name)
                 above = [other for other in ON if name in ON[other]]
                 if sorted(re.findall(r"\w+", cells[2])) != sorted(above):
                     say(MAP, number, f"{name} stands below {', '.join(above)}")
-        elif head == ("lemmas of", "cited most by"):
-            for name in re.findall(r"\w+", cells[0]):
-                test_cited(number, name, cells[1], cites.get(name, set()))
     for name in CRATES + list(ROOMS):
         counts["rows"] += said[name]
         if said[name] != 1:
@@ -342,33 +342,13 @@ def test_map():
         say(MAP, 0, f"no row for {name} of the kit")
 
 
-def test_cited(number, name, cell, by):
-    named = [word for word in re.findall(r"\w+", cell) if word in CRATES]
-    more = re.search(r"and (\d+) more", cell)
-    counts["citations"] += len(named)
-    for other in named:
-        if other not in by:
-            say(MAP, number, f"{other} cites no lemma of {name}")
-    if more and len(by) != len(named) + int(more.group(1)):
-        say(MAP, number, f"lemmas of {name} are cited by {len(by)} crates")
-
-
-def cited():
-    """By crate: the other crates whose proofs or code cite its lemmas."""
-    found = collections.defaultdict(set)
-    for path in find("crates/*/*/**/*.antt") + find("crates/*/*/**/*.rt"):
-        for pair in re.findall(r"^\s*(?:ghost )?use Rattle\.(\w+)\.proofs\b|\b(j\w+)::proofs::", read(path), re.M):
-            found["".join(pair)].add(path.split("/")[1])
-    return {name: others - {name} for name, others in found.items()}
-
-
 def test_storeys():
     """A crate stands on crates of its own storey and of those below it."""
     storeys = [[]]
     for head, number, cells in tables(MAP):
-        if head == ("crate", "room", "for") and cells[0].startswith("**"):
+        if head == ("crate", "for") and cells[0].startswith("**"):
             storeys.append([])
-        elif head == ("crate", "room", "for") and cells[0]:
+        elif head == ("crate", "for") and cells[0]:
             storeys[-1].append((cells[0], number))
     known = set()
     for storey in storeys:
