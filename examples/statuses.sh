@@ -1,6 +1,6 @@
 #!/bin/sh
 # Runs the program where a status alone says too little, and compares its status and its sentence on standard error.
-# Usage: examples/statuses.sh PROGRAM, with the program that `rt ci` built (crates/javasec/out/javasec).
+# Usage: examples/statuses.sh PROGRAM, with the program that `rt ci` builds (crates/javasec/out/javasec).
 set -u
 program=$(realpath "$1") || exit 1
 cd "$(dirname "$0")/../crates/tests_runs/data" || exit 1

@@ -1,6 +1,6 @@
 #!/bin/sh
 # Compiles the guide's plug-in, writes a job for its class files, checks and runs it, in a new folder.
-# Usage: examples/guide/own.sh PROGRAM, with the program that `rt ci` built (crates/javasec/out/javasec).
+# Usage: examples/guide/own.sh PROGRAM, with the program that `rt ci` builds (crates/javasec/out/javasec).
 set -eu
 program=$(realpath "$1")
 examples=$(realpath "$(dirname "$0")/..")

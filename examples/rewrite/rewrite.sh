@@ -1,6 +1,6 @@
 #!/bin/sh
 # Rewrites the job of this folder in a new one, checks and runs what was stored, and shows one method before and after.
-# Usage: examples/rewrite/rewrite.sh PROGRAM, with the program that `rt ci` built (crates/javasec/out/javasec).
+# Usage: examples/rewrite/rewrite.sh PROGRAM, with the program that `rt ci` builds (crates/javasec/out/javasec).
 set -eu
 program=$(realpath "$1")
 data=$(realpath "$(dirname "$0")/../../crates/tests_runs/data")
