@@ -39,7 +39,42 @@ rm "$long"
 out=/dev/full
 check 8 'javasec: the output could not be written' policy audit.job
 
+# steps that suffice by frames don't suffice in the form pass
+out=/dev/null
+check 0 '' run --form=inspect counts_25_steps.job
+check 4 '' run counts_25_steps.job
+check 0 '' run counts_26_steps.job
+
 # a closed standard error changes no status
 "$program" policy nowhere 2>&-
 [ $? = 7 ] || { echo 'WRONG: a closed standard error changes the status'; failed=1; }
+
+# ends STATUS WORD..: what is said isn't looked at
+ends() {
+  status=$1
+  shift
+  "$program" "$@" >/dev/null 2>&1
+  got=$?
+  if [ "$got" = "$status" ]; then
+    printf 'ok: %s ends with %s\n' "$*" "$got"
+  else
+    printf 'WRONG: %s ends with %s\n' "$*" "$got"
+    failed=1
+  fi
+}
+
+# a folder OUT of its own, one whose path has a line feed, and the job's own
+folder=$(mktemp -d) || exit 1
+trap 'rm -rf "$folder"' EXIT
+cp ../../javasec/data/job ../../javasec/data/app.policy ../../javasec/data/Main.class "$folder"
+cd "$folder" || exit 1
+lines=$(printf 'o\nut')
+ends 0 rewrite job out
+ends 0 run --form=plain out/job
+ends 0 rewrite job "$lines"
+[ "$("$program" check --form=plain "$lines/job" 2>/dev/null)" = 'refused job 4' ] || { echo 'WRONG: a line feed in OUT'; failed=1; }
+ends 0 check job
+ends 0 rewrite job .
+ends 3 check job
+ends 0 check --form=plain job
 exit $failed
