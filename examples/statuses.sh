@@ -20,38 +20,11 @@ check() {
   fi
 }
 
-# ends STATUS WORD..: what is said isn't looked at
-ends() {
-  status=$1
-  shift
-  "$program" "$@" >/dev/null 2>&1
-  got=$?
-  if [ "$got" = "$status" ]; then
-    printf 'ok: %s ends with %s\n' "$*" "$got"
-  else
-    printf 'WRONG: %s ends with %s\n' "$*" "$got"
-    failed=1
-  fi
-}
-
-# says STATUS PART WORD..: the sentence has this part
-says() {
-  status=$1 part=$2
-  shift 2
-  said=$("$program" "$@" 2>&1 >/dev/null)
-  got=$?
-  case $got$said in
-    "$status"*"$part"*) echo "ok: $* ends with $got: $said" ;;
-    *) echo "WRONG: $* ends with $got: $said"; failed=1 ;;
-  esac
-}
-
-commands='the commands are `run JOB`, `check JOB`, `rewrite JOB OUT`, `policy JOB`'
+commands='javasec: the commands are `run JOB`, `check JOB`, `rewrite JOB OUT`, `policy JOB`, `gen SEED SIZE`; the first two take --form=inspect, --form=pass or --form=plain'
 out=/dev/null
-ends 0 policy audit.job
-says 2 "$commands"
-says 2 "$commands" rewrite job
-says 2 'the first two take --form=inspect, --form=pass or --form=plain' run --form=frames job
+check 0 '' policy audit.job
+check 2 "$commands"
+check 2 "$commands" rewrite job
 check 7 'javasec: nowhere could not be read: nothing is there' rewrite nowhere out
 check 9 'javasec: /dev/null/d0/app/Main.class could not be stored: a file stands where a folder is wanted' rewrite plugin.job /dev/null
 check 7 'javasec: nowhere could not be read: nothing is there' policy nowhere
@@ -66,15 +39,28 @@ rm "$long"
 out=/dev/full
 check 8 'javasec: the output could not be written' policy audit.job
 
-# steps that suffice by frames don't suffice in the form pass
-out=/dev/null
-check 0 '' run --form=inspect counts_25_steps.job
-ends 4 run counts_25_steps.job
-check 0 '' run counts_26_steps.job
-
 # a closed standard error changes no status
 "$program" policy nowhere 2>&-
 [ $? = 7 ] || { echo 'WRONG: a closed standard error changes the status'; failed=1; }
+
+# ends STATUS WORD..: what is said isn't looked at
+ends() {
+  status=$1
+  shift
+  "$program" "$@" >/dev/null 2>&1
+  got=$?
+  if [ "$got" = "$status" ]; then
+    printf 'ok: %s ends with %s\n' "$*" "$got"
+  else
+    printf 'WRONG: %s ends with %s\n' "$*" "$got"
+    failed=1
+  fi
+}
+
+# steps that suffice by frames don't suffice in the form pass
+ends 0 run --form=inspect counts_25_steps.job
+ends 4 run counts_25_steps.job
+ends 0 run counts_26_steps.job
 
 # a folder OUT of its own, one whose path has a line feed, and the job's own
 folder=$(mktemp -d) || exit 1
