@@ -3,3 +3,4 @@ pub mod PassRuns
 pub mod ComposedSimulation
 pub mod SilentLead
 pub mod RunProgress
+pub mod MappedCounts

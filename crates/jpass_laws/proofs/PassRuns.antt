@@ -1,5 +1,5 @@
 -- The runs of a program and of its moved program: by the local simulation, the moved one's lead, and the machines between.
-use Rattle.std.proofs.Common.{◌≡◌, ℕ, ◌+◌, ◌*◌, ◌≤◌, Bool, true, false, [], Some, None, refl, sym, ap, ◌∙◌, arith}
+use Rattle.std.proofs.Common.{◌≡◌, ℕ, ◌+◌, ◌*◌, ◌≤◌, Bool, true, false, [], Some, None, refl, sym, ap, ◌∙◌, subst, arith}
 use Rattle.std.specs.Prelude.{nat_le, if◌then◌else◌}
 use Rattle.jperm.specs.declared.permission.Permission.{Permission}
 use Rattle.joutput.specs.declared.jtrace.event.End.{End}
@@ -7,22 +7,25 @@ use Rattle.joutput.specs.declared.jtrace.event.End.TheVariants as ends
 use Rattle.jresolution.specs.jprogram.ProgramClasses.{Program}
 use Rattle.jsemantics.specs.declared.jmachine.plan.Plan.{Plan}
 use Rattle.jsemantics.specs.jmachine.Machine.{run}
-use Rattle.jsemantics.specs.jmachine.OpeningState.{opening_charge}
+use Rattle.jsemantics.specs.jmachine.OpeningState.{opening_charge, opening_state}
 use Rattle.jsemantics.specs.jmachine.MachineStates.{NoStep, Outcome, Over, State, Went}
 use Rattle.jsemantics.specs.jmachine.StateMaps.{outcome_map}
 use Rattle.jsemantics.specs.jmachine.RunTraces.{Run, run_from}
 use Rattle.jsemantics.specs.jmachine.MachineSteps.{step}
 use Rattle.jdomain.specs.DomainStacks.{Stack}
+use Rattle.jctx.specs.Contexts as contexts
 use Rattle.jsemantics.specs.jrules.InspectingRules as inspecting
 use Rattle.jsemantics.specs.jrules.InspectingRules.{Carried}
 use Rattle.jsimulation_laws.specs.between.MachineAgreement.{ShadowedRuns, SourcedRuns, SourcedSteps, state_along}
-use Rattle.jsimulation_laws.specs.between.BetweenMachines.{shadowed, sourced}
-use Rattle.jsimulation_laws.specs.stuttering.StutteringRuns.{EndsAll, Follows, IsUnstuck, KeepsAll, Leads}
+use Rattle.jsimulation_laws.specs.between.BetweenMachines.{noted_along, shadowed, sourced}
+use Rattle.jsimulation_laws.specs.stuttering.StutteringRuns.{CountsAll, EndsAll, Follows, FollowsIn, IsUnstuck, KeepsAll, Leads, counted}
 use Rattle.jsimulation_laws.proofs.StutteringProofs.StutterCounts.{no_more}
-use Rattle.jsimulation_laws.specs.relation.StateRelation.{LocallyFollows, Point, Stands, before, behind}
+use Rattle.jsimulation_laws.specs.relation.StateRelation.{FollowsInFew, LocallyFollows, Point, Stands, before, behind}
+use Rattle.jsimulation_laws.specs.relation.StepCounts as relation
 use Rattle.jsimulation_laws.specs.local.InitialStates.{BeginsInFour, first, first_moved}
-use Rattle.jpass_laws.specs.PassSimulation.{Complete, PassTheorem, PassesUnstuck, Simulated, UnstuckFor, inspected, passed}
-use Rattle.jpass_laws.proofs.SilentLead.{near_all, told_all}
+use Rattle.jpass_laws.specs.PassSimulation.{Complete, PassTheorem, PassesUnstuck, Simulated, UnstuckFor, inspected, passed, steps_taken}
+use Rattle.jpass_laws.proofs.SilentLead.{near_all, told_all, told_exactly}
+use Rattle.jpass_laws.proofs.MappedCounts.{counted_same}
 
 some_end : {P : Type 0} (end : End) → Some end ≡ None → P
 some_end end e = absurd cc
@@ -35,6 +38,7 @@ stuck_along NoStep e = refl
 module _ (has : ℕ → Permission → Bool) (p q : Program) (plan : Plan) (charge : opening_charge q ≡ opening_charge p)
     (along : SourcedRuns) (steps : SourcedSteps) (left : ShadowedRuns)
     (keeps : KeepsAll (Stands p q)) (ends_too : EndsAll (Stands p q)) (local : Follows (Stands p q) (before has p plan) (behind has q plan) 7)
+    (counts : CountsAll (Stands p q)) (exactly : FollowsIn (Stands p q) (before has p plan) (behind has q plan) (relation.steps p))
     (u : Point) (lead : Leads (behind has q plan) 4 (first_moved has q plan) [] u) (stands : Stands p q (first has p plan) u) where
   abbrev a : Point
   a = first has p plan
@@ -127,10 +131,42 @@ module _ (has : ℕ → Permission → Bool) (p q : Program) (plan : Plan) (char
       let w = completes n m fits end (sym (ends_before n) ∙ e) (unstuck_before n free) le in
       record { events = told_behind m ∙ w.0 ∙ sym (told_before n); end = ends_behind m ∙ w.1 ∙ sym (ends_before n) }
 
-  pub passes : PassesUnstuck has p q plan
-  passes = record { simulated = simulated; complete = complete }
+  -- ---- the sum of the steps of each
 
-pub pass_theorem : SourcedRuns → SourcedSteps → ShadowedRuns → ((p q : Program) → KeepsAll (Stands p q)) → ((p q : Program) → EndsAll (Stands p q)) → LocallyFollows → BeginsInFour → PassTheorem
-pass_theorem along steps left keeps ends_too local begins has p q plan name moves is =
+  abbrev start : State Stack Carried
+  start = opening_state (inspecting.rules has) p plan.main plan.heap
+
+  start_same : state_along start ≡ a
+  unfolding run run_from
+  start_same = ap (λ (r : Run Point). r.state) (along has p plan 0)
+
+  sum_same : (k : ℕ) → steps_taken has p plan k ≡ 4 + counted (before has p plan) (relation.steps p) k a
+  sum_same k =
+      ap (λ n. 4 + n) (sym (counted_same contexts.along noted_along p (step (inspecting.rules has) p plan) (before has p plan) (λ s. steps has p plan s) k start))
+      ∙ ap (λ (s : Point). 4 + counted (before has p plan) (relation.steps p) k s) start_same
+
+  abbrev sum : ℕ → ℕ
+  sum k = 4 + counted (before has p plan) (relation.steps p) k a
+
+  told_by : (k : ℕ) (fits : Bool) → IsUnstuck (before has p plan) (begun a fits) k → Completes k (sum k) fits
+  told_by k true free = told_exactly (Stands p q) keeps ends_too (before has p plan) (behind has q plan) local a b u lead stands (relation.steps p) counts exactly k free
+  told_by k false free =
+      let x = no_more (before has p plan) k (begun a false) ends.HeapFull refl in
+      let y = no_more (behind has q plan) (sum k) (begun b false) ends.HeapFull refl in
+      (ap (λ (r : Run Point). r.events) y ∙ sym (ap (λ (r : Run Point). r.events) x), ap (λ (r : Run Point). r.end) y ∙ sym (ap (λ (r : Run Point). r.end) x))
+
+  exact : (k : ℕ) → UnstuckFor has p plan k → Complete has p q plan k (steps_taken has p plan k)
+  exact k free =
+      let w = told_by k fits (unstuck_before k free) in
+      subst (λ m. Complete has p q plan k m) (sym (sum_same k))
+      (record { events = told_behind (sum k) ∙ w.0 ∙ sym (told_before k); end = ends_behind (sum k) ∙ w.1 ∙ sym (ends_before k) })
+
+  pub passes : PassesUnstuck has p q plan
+  passes = record { simulated = simulated; complete = complete; exact = exact }
+
+pub pass_theorem : SourcedRuns → SourcedSteps → ShadowedRuns → ((p q : Program) → KeepsAll (Stands p q)) → ((p q : Program) → EndsAll (Stands p q)) → FollowsInFew
+    → ((p q : Program) → CountsAll (Stands p q)) → LocallyFollows → BeginsInFour → PassTheorem
+pass_theorem along steps left keeps ends_too local counts exactly begins has p q plan name moves is =
     let w = begins has p q plan name moves is in
-    passes has p q plan moves.charge along steps left (keeps p q) (ends_too p q) (local has p q plan moves) w.0 w.1 w.2
+    passes has p q plan moves.charge along steps left (keeps p q) (ends_too p q) (local has p q plan moves) (counts p q)
+    (exactly has p q plan moves) w.0 w.1 w.2

@@ -53,4 +53,5 @@ pub passes_all : (has : ℕ → Permission → Bool) (p q : Program) (plan : Pla
 passes_all has p q plan w free = record {
   simulated = λ m. w.simulated m (λ k lt. free k);
   complete = λ n m end e le. w.complete n m end (λ k lt. free k) e le;
+  exact = λ k. w.exact k (λ i lt. free i);
 }

@@ -5,7 +5,7 @@ use Rattle.joutput.specs.declared.jtrace.event.End.{End}
 use Rattle.jsemantics.specs.jmachine.MachineStates.{Outcome}
 use Rattle.jsemantics.specs.jmachine.RunTraces.{Run, run_from}
 use Rattle.jsemantics.proofs.JmachineProofs.Courses.{later}
-use Rattle.jsimulation_laws.specs.stuttering.StutteringRuns.{Ends, EndsAll, Follows, IsUnstuck, Keeps, KeepsAll, Leads, going}
+use Rattle.jsimulation_laws.specs.stuttering.StutteringRuns.{CountsAll, Ends, EndsAll, Follows, FollowsIn, IsUnstuck, Keeps, KeepsAll, Leads, Same, counted, going}
 use Rattle.jsimulation_laws.proofs.StutteringProofs.StutterCounts.{no_more, none_yet}
 
 module _ {S T : Type 0} (R : S → T → Type 0) (keeps : KeepsAll R) (ends : EndsAll R) (fast : S → Outcome S) (slow : T → Outcome T)
@@ -56,4 +56,11 @@ module _ {S T : Type 0} (R : S → T → Type 0) (keeps : KeepsAll R) (ends : En
       let over = w.end ∙ e in
       let slow-is : L m ≡ run_from slow w.j (going [] u)
       = ap L m-is ∙ behind_lead (m - 4) ∙ later slow w.j (m - 4 - w.j) (m - 4) (going [] u) k-is ∙ no_more slow (m - 4 - w.j) (run_from slow w.j (going [] u)) end over in
+      (ap (λ (r : Run T). r.events) slow-is ∙ w.events, ap (λ (r : Run T). r.end) slow-is ∙ w.end)
+
+  -- where it is known how many steps answer each one, their sum behind the lead tells the same
+  pub told_exactly : (count : S → Outcome S → ℕ) → CountsAll R → FollowsIn R fast slow count → (k : ℕ) → IsUnstuck fast (going [] s) k → Told k (4 + counted fast count k s)
+  told_exactly count counts exact k free =
+      let w : Same fast slow (going [] s) (going [] u) k (counted fast count k s) = counts fast slow count exact k [] s u stands free in
+      let slow-is = behind_lead (counted fast count k s) in
       (ap (λ (r : Run T). r.events) slow-is ∙ w.events, ap (λ (r : Run T). r.end) slow-is ∙ w.end)

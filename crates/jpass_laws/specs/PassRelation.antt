@@ -14,9 +14,10 @@ use Rattle.jsemantics.specs.jrules.InspectingRules as inspecting
 use Rattle.jsemantics.specs.jrules.InspectingRules.{Carried}
 use Rattle.jsemantics.specs.jrules.PlainRules as plain
 use Rattle.jsimulation_laws.specs.between.MachineAgreement.{state_along, state_left}
-use Rattle.jsimulation_laws.specs.stuttering.StutteringRuns.{Follows}
+use Rattle.jsimulation_laws.specs.stuttering.StutteringRuns.{Follows, FollowsIn}
 use Rattle.jsimulation_laws.specs.relation.ProgramRelation.{Moves}
 use Rattle.jsimulation_laws.specs.relation.StateRelation.{Point, Stands}
+use Rattle.jsimulation_laws.specs.relation.StepCounts.{steps}
 
 -- With contexts in place of its stacks the inspecting state is one of the first machine between; a state of the second one stands for that;
 -- and it is the plain state, but for what its frames carry.
@@ -27,12 +28,21 @@ pub record StandsFor (p q : Program) (s : State Stack Carried) (t : State (List 
 
 -- ---- the law
 
--- Each step of the inspecting machine is answered by 1 to 7 of the plain one.
+-- Each step of the inspecting machine is answered by as many of the plain one as its instruction tells,
 abbrev pub StandsThroughout : Type 0
 StandsThroughout = (has : ℕ → Permission → Bool) (p q : Program) (plan : Plan) → Moves p q
+    → FollowsIn (StandsFor p q) (step (inspecting.rules has) p plan) (step (plain.rules has) q plan) (steps p)
+
+-- and so by 1 to 7;
+abbrev pub StandsInFew : Type 0
+StandsInFew = (has : ℕ → Permission → Bool) (p q : Program) (plan : Plan) → Moves p q
     → Follows (StandsFor p q) (step (inspecting.rules has) p plan) (step (plain.rules has) q plan) 7
 
--- of each program that links, is well typed and breaks no limit, and its moved program
+-- and both of each program that links, is well typed and breaks no limit, and its moved program.
 abbrev pub MovedStands : Type 0
 MovedStands = (has : ℕ → Permission → Bool) (p : Program) (plan : Plan) → IsLinked p → WellTyped p → limits p ≡ None
+    → FollowsIn (StandsFor p (moved p)) (step (inspecting.rules has) p plan) (step (plain.rules has) (moved p) plan) (steps p)
+
+abbrev pub MovedInFew : Type 0
+MovedInFew = (has : ℕ → Permission → Bool) (p : Program) (plan : Plan) → IsLinked p → WellTyped p → limits p ≡ None
     → Follows (StandsFor p (moved p)) (step (inspecting.rules has) p plan) (step (plain.rules has) (moved p) plan) 7

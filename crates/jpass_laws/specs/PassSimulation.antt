@@ -12,13 +12,15 @@ use Rattle.jrewriting.specs.jrewrite.RewrittenPrograms.{limits, moved}
 use Rattle.jsemantics.specs.declared.jmachine.plan.Plan.{Plan}
 use Rattle.jsemantics.specs.jmachine.MachineStates.{Outcome, State}
 use Rattle.jsemantics.specs.jmachine.Machine.{run}
+use Rattle.jsemantics.specs.jmachine.OpeningState.{opening_state}
 use Rattle.jsemantics.specs.jmachine.RunTraces.{Run}
 use Rattle.jsemantics.specs.jmachine.MachineSteps.{step}
 use Rattle.jsemantics.specs.jrules.InspectingRules as inspecting
 use Rattle.jsemantics.specs.jrules.InspectingRules.{Carried}
 use Rattle.jsemantics.specs.jrules.PlainRules as plain
-use Rattle.jsimulation_laws.specs.stuttering.StutteringRuns.{HasStep}
+use Rattle.jsimulation_laws.specs.stuttering.StutteringRuns.{HasStep, counted}
 use Rattle.jsimulation_laws.specs.relation.ProgramRelation.{Moves}
+use Rattle.jsimulation_laws.specs.relation.StepCounts.{steps}
 
 -- the run of a program as it was written, by the machine that walks frames,
 abbrev pub inspected : (ℕ → Permission → Bool) → Program → Plan → ℕ → Run (State Stack Carried)
@@ -49,16 +51,24 @@ pub record Complete (has : ℕ → Permission → Bool) (p q : Program) (plan : 
   pub events : (passed has q plan m).events ≡ (inspected has p plan n).events
   pub end : (passed has q plan m).end ≡ (inspected has p plan n).end
 
--- both, of a program, its moved program and a plan
+-- In so many steps of the moved program the first k of the inspecting run are answered: four in which `main` enters its context, and those of
+-- each.
+abbrev pub steps_taken : (ℕ → Permission → Bool) → Program → Plan → ℕ → ℕ
+steps_taken has p plan k = 4 + counted (step (inspecting.rules has) p plan) (steps p) k (opening_state (inspecting.rules has) p plan.main plan.heap)
+
+-- all three, of a program, its moved program and a plan
 pub record Passes (has : ℕ → Permission → Bool) (p q : Program) (plan : Plan) : Type 0 where
   pub simulated : (m : ℕ) → Simulated has p q plan m
   -- where the inspecting run has ended, enough steps tell it all
   pub complete : (n m : ℕ) (end : End) → (inspected has p plan n).end ≡ Some end → 8 * n + 8 ≤ m → Complete has p q plan n m
+  -- and so many steps tell what k told
+  pub exact : (k : ℕ) → Complete has p q plan k (steps_taken has p plan k)
 
--- both, as far as the inspecting run isn't stuck
+-- all three, as far as the inspecting run isn't stuck
 pub record PassesUnstuck (has : ℕ → Permission → Bool) (p q : Program) (plan : Plan) : Type 0 where
   pub simulated : (m : ℕ) → UnstuckFor has p plan m → Simulated has p q plan m
   pub complete : (n m : ℕ) (end : End) → UnstuckFor has p plan n → (inspected has p plan n).end ≡ Some end → 8 * n + 8 ≤ m → Complete has p q plan n m
+  pub exact : (k : ℕ) → UnstuckFor has p plan k → Complete has p q plan k (steps_taken has p plan k)
 
 -- ---- the laws
 

@@ -9,6 +9,7 @@ pub mod HandedContexts
 pub mod LocalAndStackSteps
 pub mod ContextLocals
 pub mod FrameExits
+pub mod FrameCounts
 pub mod Locals
 pub mod AllocationSteps
 pub mod MainPrologue

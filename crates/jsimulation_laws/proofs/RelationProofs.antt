@@ -1,3 +1,4 @@
 pub mod ExpansionExamples
 pub mod ExpansionLengths
 pub mod References
+pub mod StepExamples

@@ -1,3 +1,4 @@
 pub mod LeadCounts
 pub mod StutterCounts
 pub mod Silences
+pub mod CountedAnswers

@@ -1,3 +1,4 @@
 pub mod InstructionExpansion
 pub mod ProgramRelation
 pub mod StateRelation
+pub mod StepCounts

@@ -4,8 +4,9 @@
 //! does for one step of the other (`Answers`, `Follows`), and the laws. Proved, on `count_laws`, for any way in which states stand for one
 //! another: after m steps the slower one has told what the other has told after some k of no more than m steps and has ended as that, or
 //! m is less than so many times k + 1; and where the other has ended after n steps, it has told the same and ended alike within so many times
-//! n. Where the slower one first takes some steps that tell nothing, both hold with so many more. The one premise is that the other machine
-//! isn't stuck within the steps spoken of.
+//! n. Where the slower one first takes some steps that tell nothing, both hold with so many more. Where it is known how many steps answer each
+//! one (`FollowsIn`), both have told the same and ended alike after k and after the sum of these (`counted`). The one premise is that the other
+//! machine isn't stuck within the steps spoken of.
 
 mod laws;
 

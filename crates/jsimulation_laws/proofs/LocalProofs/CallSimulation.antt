@@ -1,5 +1,5 @@
 -- A call, and what stands for it: silent steps that put values on the operands, and a call that takes these with the others.
-use Rattle.std.proofs.Common.{◌≡◌, ℕ, zero, suc, ◌+◌, ◌≤◌, Bool, List, [], ◌∷◌, ◌++◌, length, Option, Some, None, option_map, refl, sym, ap, ◌∙◌, subst, arith}
+use Rattle.std.proofs.Common.{◌≡◌, ℕ, zero, suc, ◌+◌, Bool, List, [], ◌∷◌, ◌++◌, length, Option, Some, None, option_map, refl, sym, ap, ◌∙◌, subst, arith}
 use Rattle.std.specs.Prelude.{slice_get}
 use Rattle.jperm.specs.declared.permission.Permission.{Permission as Perm}
 use Rattle.jdomain.specs.declared.verdict.Verdict.{Verdict}
@@ -114,7 +114,7 @@ module _ (z : Scene) (top : Newest z) (by : InvokeKind) (c : CallMeaning) (at : 
 
   -- what is known of an act, where these operands are left
   abbrev pub CanDo : ℕ → Taken (List Item) → Act (List Item) Noted → List Item → Type 0
-  CanDo n t act k' = straights.Can z.p z.q z.moves z.s.running.inherited n top.fs (with_operands top.f t.below) act k'
+  CanDo n t act k' = straights.Can z.p z.q z.moves z.s.running.inherited i n top.fs (with_operands top.f t.below) act k'
 
   -- a row that neither calls nor jumps
   pub from_led : (n : ℕ) (t : Taken (List Item)) (o o' : Rows) → Led code.at o o' → LedTo code.at (CanDo n t) o o'
@@ -141,7 +141,7 @@ module _ (z : Scene) (top : Newest z) (by : InvokeKind) (c : CallMeaning) (at : 
     checked_led decides (Ref zero) = (k, tt, refl)
     checked_led decides (Ref (suc i)) = held_led decides (permission_in (object_at z.s.store (suc i)))
 
-  module _ (by' : InvokeKind) (c' : CallMeaning) (front : List Word) (n : ℕ) (few : n ≤ 2) (quiet : Silently (follows z) n (S (g ∷ top.gs)) (S (ready n front ∷ top.gs)))
+  module _ (by' : InvokeKind) (c' : CallMeaning) (front : List Word) (n : ℕ) (quiet : Silently (follows z) n (S (g ∷ top.gs)) (S (ready n front ∷ top.gs)))
       (at' : fetched z.q top.f.method (top.place + n) ≡ Some (Used (Call by' c'))) (last : length (expanded code.place code.at i) ≡ n + 1)
       (takes : call_taken Passing (moved.there z.q here_at) z.s.store by' c' (front ++ top.f.operands) ≡ option_map (with_front front) taken_here)
       (rows : (t : Taken (List Item)) → taken_here ≡ Some t → LedTo code.at (CanDo n t) (row_before t.values) (row_behind by' c' n front (front ++ t.values))) where
@@ -160,13 +160,13 @@ module _ (z : Scene) (top : Newest z) (by : InvokeKind) (c : CallMeaning) (at : 
         (sites_same z top.f (ready n front) top.fs top.gs (ready n front ∷ top.gs) refl (below_long z.p z.q z.s.running.inherited top.fs top.gs top.below))
         ∙ ap (done_by (moved.there z.q here_at)) takes
 
-    led : (xs : List Word) (o o' : Rows) → LedTo code.at (λ act k'. straights.Can z.p z.q z.moves z.s.running.inherited n top.fs (with_operands top.f xs) act k') o o'
+    led : (xs : List Word) (o o' : Rows) → LedTo code.at (λ act k'. straights.Can z.p z.q z.moves z.s.running.inherited i n top.fs (with_operands top.f xs) act k') o o'
         → follows z (S (ready n front ∷ top.gs)) ≡ done (shadowed z.has) z.q z.plan (S (ready n front ∷ top.gs)) top.gs
         (option_map (does (spot (with_operands top.f xs) (top.place + n) top.ys)) o')
         → A (done_here z top.fs (option_map (does (with_operands top.f xs)) o)) (g ∷ top.gs)
     led xs None o' l is = tt
     led xs (Some r) o' l is =
-        taking.led_row z top i at n (omega (arith, few)) (ready n front ∷ top.gs) quiet n (top.place + n) (let h = top.new.frame.place in omega (arith, h)) last l.0 xs r l.1
+        taking.led_row z top i at n (ready n front ∷ top.gs) quiet (top.place + n) (let h = top.new.frame.place in omega (arith, h)) last l.0 xs r l.1
         (is
         ∙ ap
         (λ (x : Rows). done (shadowed z.has) z.q z.plan (S (ready n front ∷ top.gs)) top.gs (option_map (does (spot (with_operands top.f xs) (top.place + n) top.ys)) x))

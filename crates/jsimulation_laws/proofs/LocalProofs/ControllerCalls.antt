@@ -1,5 +1,5 @@
 -- Calls of the methods of AccessController: the context and the domain are handed to what stands for them, which answers alike.
-use Rattle.std.proofs.Common.{◌≡◌, ℕ, zero, suc, ◌+◌, ◌≤◌, pos, List, [], ◌∷◌, ◌++◌, length, map, Option, Some, None, option_map, refl, sym, ap, ◌∙◌, subst, arith}
+use Rattle.std.proofs.Common.{◌≡◌, ℕ, zero, suc, ◌+◌, pos, true, List, [], ◌∷◌, ◌++◌, length, map, Option, Some, None, option_map, refl, sym, ap, ◌∙◌, subst, arith}
 use Rattle.std.specs.Prelude.{option_and_then, slice_get}
 use Rattle.jperm.specs.declared.permission.Permission.{Permission as Perm}
 use Rattle.jlib.specs.declared.side.Side.TheVariants.{Source, Passing}
@@ -35,9 +35,10 @@ use Rattle.jsemantics.specs.jmachine.Store.{Store, object_at}
 use Rattle.jsemantics.specs.jmachine.World.{world}
 use Rattle.jsimulation_laws.specs.between.BetweenMachines.{Noted, Privileged, context_of, noted, shadowed, sourced}
 use Rattle.jsimulation_laws.proofs.StutteringProofs.Silences.{Silently}
-use Rattle.jsimulation_laws.specs.relation.InstructionExpansion.{Place, asking, asking_params, call_rt, calling, expanded, load, moved_target, push, rt_meaning, way_of}
+use Rattle.jsimulation_laws.specs.relation.InstructionExpansion.{Asking, Place, Way, asking, asking_params, call_rt, calling, expanded, load, moved_target, push, rt_meaning, way_of}
 use Rattle.jsimulation_laws.specs.relation.ProgramRelation as moved
 use Rattle.jsimulation_laws.specs.relation.StateRelation.{Frame, Point, Word, entries}
+use Rattle.jsimulation_laws.specs.relation.StepCounts.{call_steps, instruction_steps}
 use Rattle.jsimulation_laws.proofs.LocalProofs.CallSimulation as call
 use Rattle.jsimulation_laws.proofs.LocalProofs.CallSimulation.{LedTo, Rows, with_front}
 use Rattle.jsimulation_laws.proofs.LocalProofs.Locals as locals
@@ -115,7 +116,13 @@ module _ (z : Scene) (top : Newest z) (c : CallMeaning) (at : fetched z.p top.f.
   stays : k ≡ whole
   stays = ap (λ (e : Noted). context_of (e ∷ entries top.fs) z.s.running.inherited) (sym top.new.bare)
 
-  module _ (n : ℕ) (few : n ≤ 2) (t : Taken (List Item)) where
+  -- what invokes a method is answered by so many silent steps, the call and four
+  abbrev Invoking : ℕ → ControllerCall → Type 0
+  Invoking n controller.Check = Unit {0}
+  Invoking n controller.Snapshot = Unit {0}
+  Invoking n some = instruction_steps (Used (Call how.Static c)) true ≡ n + 5
+
+  module _ (n : ℕ) (t : Taken (List Item)) where
     abbrev Can : Act (List Item) Noted → List Item → Type 0
     Can act k' = call.CanDo z top how.Static c at n t act k'
 
@@ -136,107 +143,110 @@ module _ (z : Scene) (top : Newest z) (c : CallMeaning) (at : fetched z.p top.f.
     abbrev privilege_of : Option (List Item) → Option (List Perm) → Option (List Item) → Privilege (List Item) Noted
     privilege_of given' limits' context = record { caller = noted top.f.entry.domain (Privileged given' limits'); context = context }
 
-    module _ (given' : Option (List Item)) (limits' : Option (List Perm)) (k' : List Item) (is : k' ≡ privileged top.f.entry.domain given' limits' older) where
-      acting_led : (i : ℕ) (x : Object (List Item)) (o : Target) → by_interface (world z.p) here_at.full (run_action Source) x ≡ o
-          → LedTo to Can (acting i (privilege_of given' limits' None) o) (acting i (privilege_of given' limits' (Some k')) (moved_target o))
-      acting_led i x (Fails class) e = (k', tt, refl)
-      acting_led i x (Pushes m) e = (
-        k',
-        (
-          few,
-          λ body has_code. record {
-            fills = locals.one_place (Ref i) refl ∙ sym (z.moves.fills.actions here_at.full x m body has_code e);
-            domain = top.new.frame.domain;
-            context = is;
-          },
-        ),
-        refl,
-      )
-      acting_led i x (Runs call') e = tt
+    -- an action is run, if it isn't the library's
+    module _ (many : instruction_steps (Used (Call how.Static c)) true ≡ n + 5) where
+      module _ (given' : Option (List Item)) (limits' : Option (List Perm)) (k' : List Item) (is : k' ≡ privileged top.f.entry.domain given' limits' older) where
+        acting_led : (i : ℕ) (x : Object (List Item)) (o : Target) → by_interface (world z.p) here_at.full (run_action Source) x ≡ o
+            → LedTo to Can (acting i (privilege_of given' limits' None) o) (acting i (privilege_of given' limits' (Some k')) (moved_target o))
+        acting_led i x (Fails class) e = (k', tt, refl)
+        acting_led i x (Pushes m) e = (
+          k',
+          (
+            many,
+            λ body has_code. record {
+              fills = locals.one_place (Ref i) refl ∙ sym (z.moves.fills.actions here_at.full x m body has_code e);
+              domain = top.new.frame.domain;
+              context = is;
+            },
+          ),
+          refl,
+        )
+        acting_led i x (Runs call') e = tt
 
-      object_led : (i : ℕ) (o : Option (Object (List Item)))
-          → LedTo to Can (acting_on here_at Source i (privilege_of given' limits' None) o) (acting_on there_at Passing i (privilege_of given' limits' (Some k')) o)
-      object_led i None = tt
-      object_led i (Some x) =
-          subst
-          (λ (o : Target). LedTo to Can (acting i (privilege_of given' limits' None) (by_interface (world z.p) here_at.full (run_action Source) x))
-          (acting i (privilege_of given' limits' (Some k')) o))
-          (sym (z.moves.calls.actions here_at.full x))
-          (acting_led i x (by_interface (world z.p) here_at.full (run_action Source) x) refl)
+        object_led : (i : ℕ) (o : Option (Object (List Item)))
+            → LedTo to Can (acting_on here_at Source i (privilege_of given' limits' None) o) (acting_on there_at Passing i (privilege_of given' limits' (Some k')) o)
+        object_led i None = tt
+        object_led i (Some x) =
+            subst
+            (λ (o : Target). LedTo to Can (acting i (privilege_of given' limits' None) (by_interface (world z.p) here_at.full (run_action Source) x))
+            (acting i (privilege_of given' limits' (Some k')) o))
+            (sym (z.moves.calls.actions here_at.full x))
+            (acting_led i x (by_interface (world z.p) here_at.full (run_action Source) x) refl)
 
-      action_led : (v : Word)
-          → LedTo to Can (action here_at z.s.store Source v (privilege_of given' limits' None)) (action there_at z.s.store Passing v (privilege_of given' limits' (Some k')))
-      action_led (Int x) = tt
-      action_led (Long x) = tt
-      action_led (Ctx x) = tt
-      action_led (Ref zero) = (k', tt, refl)
-      action_led (Ref (suc i)) = object_led (suc i) (object_at z.s.store (suc i))
+        action_led : (v : Word)
+            → LedTo to Can (action here_at z.s.store Source v (privilege_of given' limits' None)) (action there_at z.s.store Passing v (privilege_of given' limits' (Some k')))
+        action_led (Int x) = tt
+        action_led (Long x) = tt
+        action_led (Ctx x) = tt
+        action_led (Ref zero) = (k', tt, refl)
+        action_led (Ref (suc i)) = object_led (suc i) (object_at z.s.store (suc i))
 
-    domain_same : d ≡ top.f.entry.domain
-    domain_same = top.new.frame.code.domain ∙ sym top.new.frame.domain
+      domain_same : d ≡ top.f.entry.domain
+      domain_same = top.new.frame.code.domain ∙ sym top.new.frame.domain
 
-    -- without limits nothing of the older frames is left,
-    alone_same : (given' : Option (List Item)) → privileged d given' None [] ≡ privileged top.f.entry.domain given' None older
-    alone_same given' = ap (λ n. privileged n given' None []) domain_same
+      -- without limits nothing of the older frames is left,
+      alone_same : (given' : Option (List Item)) → privileged d given' None [] ≡ privileged top.f.entry.domain given' None older
+      alone_same given' = ap (λ n. privileged n given' None []) domain_same
 
-    -- and with limits the method's own domain adds nothing
-    limited_same : (given' : Option (List Item)) (ps : List Perm) → privileged d given' (Some ps) k ≡ privileged top.f.entry.domain given' (Some ps) older
-    limited_same given' ps =
-        ap (λ n. privileged n given' (Some ps) k) top.new.frame.code.domain
-        ∙ z.same (domain_of z.p top.f.method) given' (Some ps) older
-        ∙ ap (λ n. privileged n given' (Some ps) older) (sym top.new.frame.domain)
+      -- and with limits the method's own domain adds nothing
+      limited_same : (given' : Option (List Item)) (ps : List Perm) → privileged d given' (Some ps) k ≡ privileged top.f.entry.domain given' (Some ps) older
+      limited_same given' ps =
+          ap (λ n. privileged n given' (Some ps) k) top.new.frame.code.domain
+          ∙ z.same (domain_of z.p top.f.method) given' (Some ps) older
+          ∙ ap (λ n. privileged n given' (Some ps) older) (sym top.new.frame.domain)
+
+      module _ (carried : List Noted) where
+        abbrev marks : List Noted
+        marks = entries (top.f ∷ top.fs)
+
+        abbrev marks_there : List Noted
+        marks_there = top.f.entry ∷ carried
+
+        within_led : (v : Word) (o : Option (Option (List Item)))
+            → LedTo to Can (option_and_then (privilege (sourced z.has) here_at z.s.store marks None None None v) o)
+            (option_and_then (privilege (shadowed z.has) there_at z.s.store marks_there (Some d) None None v) o)
+        unfolding sourced shadowed
+        within_led v None = tt
+        within_led v (Some given') = action_led given' None (privileged d given' None []) (alone_same given') v
+
+        limited_within_led : (v : Word) (ps : List Perm) (o : Option (Option (List Item)))
+            → LedTo to Can (option_and_then (privilege (sourced z.has) here_at z.s.store marks None None (Some ps) v) o)
+            (option_and_then (privilege (shadowed z.has) there_at z.s.store marks_there (Some d) (Some k) (Some ps) v) o)
+        unfolding sourced shadowed
+        limited_within_led v ps None = tt
+        limited_within_led v ps (Some given') = action_led given' (Some ps) (privileged d given' (Some ps) k) (limited_same given' ps) v
+
+        limited_led : (context v : Word) (o : Option (Option (List Perm)))
+            → LedTo to Can (option_and_then (limited_by (sourced z.has) here_at z.s.store marks None None context v) o)
+            (option_and_then (limited_by (shadowed z.has) there_at z.s.store marks_there (Some d) (Some k) context v) o)
+        limited_led context v None = tt
+        limited_led context v (Some None) = (k, tt, refl)
+        limited_led context v (Some (Some ps)) = limited_within_led v ps (given z.s.store context)
 
     module _ (carried : List Noted) where
-      abbrev marks : List Noted
-      marks = entries (top.f ∷ top.fs)
-
-      abbrev marks_there : List Noted
-      marks_there = top.f.entry ∷ carried
-
-      within_led : (v : Word) (o : Option (Option (List Item)))
-          → LedTo to Can (option_and_then (privilege (sourced z.has) here_at z.s.store marks None None None v) o)
-          (option_and_then (privilege (shadowed z.has) there_at z.s.store marks_there (Some d) None None v) o)
-      unfolding sourced shadowed
-      within_led v None = tt
-      within_led v (Some given') = action_led given' None (privileged d given' None []) (alone_same given') v
-
-      limited_within_led : (v : Word) (ps : List Perm) (o : Option (Option (List Item)))
-          → LedTo to Can (option_and_then (privilege (sourced z.has) here_at z.s.store marks None None (Some ps) v) o)
-          (option_and_then (privilege (shadowed z.has) there_at z.s.store marks_there (Some d) (Some k) (Some ps) v) o)
-      unfolding sourced shadowed
-      limited_within_led v ps None = tt
-      limited_within_led v ps (Some given') = action_led given' (Some ps) (privileged d given' (Some ps) k) (limited_same given' ps) v
-
-      limited_led : (context v : Word) (o : Option (Option (List Perm)))
-          → LedTo to Can (option_and_then (limited_by (sourced z.has) here_at z.s.store marks None None context v) o)
-          (option_and_then (limited_by (shadowed z.has) there_at z.s.store marks_there (Some d) (Some k) context v) o)
-      limited_led context v None = tt
-      limited_led context v (Some None) = (k, tt, refl)
-      limited_led context v (Some (Some ps)) = limited_within_led v ps (given z.s.store context)
-
       -- ---- each method, by what it was given
 
-      led : (some : ControllerCall) (values : List Word)
-          → LedTo to Can (controller_row (sourced z.has) here_at z.s.store marks z.s.running.inherited some values)
-          (rt_row (shadowed z.has) there_at z.s.store marks_there z.s.running.inherited (rt_of some) (front d k some ++ values))
+      led : (some : ControllerCall) → Invoking n some → (values : List Word)
+          → LedTo to Can (controller_row (sourced z.has) here_at z.s.store (entries (top.f ∷ top.fs)) z.s.running.inherited some values)
+          (rt_row (shadowed z.has) there_at z.s.store (top.f.entry ∷ carried) z.s.running.inherited (rt_of some) (front d k some ++ values))
       unfolding controller_row rt_row sourced shadowed
-      led controller.Check [] = tt
-      led controller.Check (v ∷ []) = check_led v
-      led controller.Check (v ∷ w ∷ vs) = tt
-      led controller.Snapshot [] = snapshot_led
-      led controller.Snapshot (v ∷ vs) = tt
-      led controller.Privileged [] = tt
-      led controller.Privileged (v ∷ []) = action_led None None (privileged d None None []) (alone_same None) v
-      led controller.Privileged (v ∷ w ∷ vs) = tt
-      led controller.PrivilegedWith [] = tt
-      led controller.PrivilegedWith (context ∷ []) = tt
-      led controller.PrivilegedWith (context ∷ v ∷ []) = within_led v (given z.s.store context)
-      led controller.PrivilegedWith (context ∷ v ∷ w ∷ vs) = tt
-      led controller.PrivilegedLimited [] = tt
-      led controller.PrivilegedLimited (array ∷ []) = tt
-      led controller.PrivilegedLimited (array ∷ context ∷ []) = tt
-      led controller.PrivilegedLimited (array ∷ context ∷ v ∷ []) = limited_led context v (limits z.s.store array)
-      led controller.PrivilegedLimited (array ∷ context ∷ v ∷ w ∷ vs) = tt
+      led controller.Check many [] = tt
+      led controller.Check many (v ∷ []) = check_led v
+      led controller.Check many (v ∷ w ∷ vs) = tt
+      led controller.Snapshot many [] = snapshot_led
+      led controller.Snapshot many (v ∷ vs) = tt
+      led controller.Privileged many [] = tt
+      led controller.Privileged many (v ∷ []) = action_led many None None (privileged d None None []) (alone_same many None) v
+      led controller.Privileged many (v ∷ w ∷ vs) = tt
+      led controller.PrivilegedWith many [] = tt
+      led controller.PrivilegedWith many (context ∷ []) = tt
+      led controller.PrivilegedWith many (context ∷ v ∷ []) = within_led many carried v (given z.s.store context)
+      led controller.PrivilegedWith many (context ∷ v ∷ w ∷ vs) = tt
+      led controller.PrivilegedLimited many [] = tt
+      led controller.PrivilegedLimited many (array ∷ []) = tt
+      led controller.PrivilegedLimited many (array ∷ context ∷ []) = tt
+      led controller.PrivilegedLimited many (array ∷ context ∷ v ∷ []) = limited_led many carried context v (limits z.s.store array)
+      led controller.PrivilegedLimited many (array ∷ context ∷ v ∷ w ∷ vs) = tt
 
   -- ---- the silent steps
 
@@ -244,12 +254,12 @@ module _ (z : Scene) (top : Newest z) (c : CallMeaning) (at : fetched z.p top.f.
   steps controller.PrivilegedLimited = 2
   steps some = 1
 
-  few_steps : (some : ControllerCall) → steps some ≤ 2
-  few_steps controller.Check = omega arith
-  few_steps controller.Snapshot = omega arith
-  few_steps controller.Privileged = omega arith
-  few_steps controller.PrivilegedWith = omega arith
-  few_steps controller.PrivilegedLimited = omega arith
+  invoking : (some : ControllerCall) → way_of c.member ≡ Asking some → Invoking (steps some) some
+  invoking controller.Check e = tt
+  invoking controller.Snapshot e = tt
+  invoking controller.Privileged e = ap (λ (way : Way). call_steps way true) e
+  invoking controller.PrivilegedWith e = ap (λ (way : Way). call_steps way true) e
+  invoking controller.PrivilegedLimited e = ap (λ (way : Way). call_steps way true) e
 
   abbrev place_is : Place
   place_is = top.new.frame.code.place
@@ -345,7 +355,7 @@ module _ (z : Scene) (top : Newest z) (c : CallMeaning) (at : fetched z.p top.f.
       (λ (o : Rows). LedTo to (call.CanDo z top how.Static c at (steps one) t)
       (controller_row (sourced z.has) here_at z.s.store (entries (top.f ∷ top.fs)) z.s.running.inherited one t.values) o)
       (sym (there_row one (front d k one ++ t.values)))
-      (led (steps one) (few_steps one) t (entries top.gs) one t.values))
+      (led (steps one) t (entries top.gs) one (invoking one (ap way_of member)) t.values))
 
   way_is : becomes ≡ asking place_is one
   way_is = ap (λ (m : Member). calling place_is how.Static c (way_of m)) member
@@ -353,7 +363,7 @@ module _ (z : Scene) (top : Newest z) (c : CallMeaning) (at : fetched z.p top.f.
   -- A call of a method of AccessController is answered in two or three steps, and in six or seven where it pushes a frame.
   pub asking_follows : taking.A z (stepped z) (g ∷ top.gs)
   asking_follows =
-      call.call_follows z top how.Static c at how.Static (rt_meaning (rt_of one)) (front d k one) (steps one) (few_steps one) (quiet_by one way_is) (at_by one way_is)
+      call.call_follows z top how.Static c at how.Static (rt_meaning (rt_of one)) (front d k one) (steps one) (quiet_by one way_is) (at_by one way_is)
       (last_by one way_is)
       (call_taken_same here_at (world z.q) z.moves.classes z.s.store how.Static (rt_meaning (rt_of one)) (front d k one ++ top.f.operands)
       ∙ asked_taken here_at z.s.store d k one c top.f.operands params)

@@ -1,5 +1,5 @@
 -- Calls that hand on a context: those of users' methods, of both `run`, and of Thread's constructor.
-use Rattle.std.proofs.Common.{◌≡◌, ℕ, Bool, true, false, List, [], ◌∷◌, ◌++◌, length, Option, Some, None, option_map, refl, sym, ap, ◌∙◌, subst, arith}
+use Rattle.std.proofs.Common.{◌≡◌, ℕ, Bool, true, false, List, [], ◌∷◌, ◌++◌, length, Option, Some, None, option_map, refl, sym, ap, ◌∙◌, subst}
 use Rattle.std.specs.Prelude.{option_and_then, slice_get, if◌then◌else◌}
 use Rattle.jlib.specs.declared.side.Side.TheVariants.{Source, Passing}
 use Rattle.jlib.specs.declared.calls.LibCall.{LibCall}
@@ -28,10 +28,11 @@ use Rattle.jsemantics.specs.jmachine.ThreadOperations.{thread}
 use Rattle.jsemantics.specs.jmachine.World.{World, world}
 use Rattle.jsimulation_laws.specs.between.BetweenMachines.{Noted, context_of, shadowed, sourced}
 use Rattle.jsimulation_laws.proofs.StutteringProofs.Silences.{Silently}
-use Rattle.jsimulation_laws.specs.relation.InstructionExpansion.{Handed, calling, expanded, handed, handing, load, moved_target, passing, runs_handed, way_of}
+use Rattle.jsimulation_laws.specs.relation.InstructionExpansion.{Handed, Way, calling, expanded, handed, handing, load, moved_target, passing, runs_handed, way_of}
 use Rattle.jsimulation_laws.specs.relation.ProgramRelation as moved
 use Rattle.jsimulation_laws.specs.relation.ProgramRelation.{Calling}
 use Rattle.jsimulation_laws.specs.relation.StateRelation.{Frame, Point, Word, entries}
+use Rattle.jsimulation_laws.specs.relation.StepCounts.{call_steps}
 use Rattle.jsimulation_laws.proofs.LocalProofs.CallSimulation as call
 use Rattle.jsimulation_laws.proofs.LocalProofs.CallSimulation.{LedTo, Rows, with_front}
 use Rattle.jsimulation_laws.proofs.LocalProofs.Prologues.{load_step}
@@ -192,7 +193,7 @@ module _ (z : Scene) (top : Newest z) (by : InvokeKind) (c : CallMeaning) (at : 
     target_led (Some (Pushes m)) e = (
       k,
       (
-        omega arith,
+        ap (λ (way : Way). call_steps way true) way,
         λ body is. record {
           fills = z.moves.fills.calls top.f.method m here_at z.s.store by c top.f.operands t body is calling_is e;
           domain = top.new.frame.domain;
@@ -225,7 +226,7 @@ module _ (z : Scene) (top : Newest z) (by : InvokeKind) (c : CallMeaning) (at : 
   -- A call that hands on a context is answered in two steps, or in six where it pushes a frame.
   pub handed_follows : taking.A z (stepped z) (spot top.f top.place top.ys ∷ top.gs)
   handed_follows =
-      call.call_follows z top by c at by (handed c) (alone k) 1 (omega arith) quiet
+      call.call_follows z top by c at by (handed c) (alone k) 1 quiet
       (call.nth z top by c at 1 (Used (Call by (handed c))) (ap (λ (xs : List Instruction). slice_get xs 1) becomes))
       (ap (λ (xs : List Instruction). length xs) becomes)
       (call_taken_same here_at (world z.q) z.moves.classes z.s.store by (handed c) (Ctx k ∷ top.f.operands) ∙ handed_taken here_at z.s.store by c k top.f.operands)

@@ -1,5 +1,5 @@
 -- Instructions with locals and with the newest items of the stack: each is answered by itself.
-use Rattle.std.proofs.Common.{◌≡◌, ℕ, List, [], ◌∷◌, length, map, Option, Some, None, option_map, refl, sym, ap, ◌∙◌, subst, arith}
+use Rattle.std.proofs.Common.{◌≡◌, ℕ, ◌+◌, false, List, [], ◌∷◌, length, map, Option, Some, None, option_map, refl, sym, ap, ◌∙◌, subst, arith}
 use Rattle.jvalues.specs.declared.jnames.names.Shuffle.{Shuffle}
 use Rattle.jvalues.specs.declared.jops.value.Value.TheVariants.{Ctx}
 use Rattle.jvalues.specs.jops.Shuffles.{Move, item, shuffle}
@@ -14,6 +14,7 @@ use Rattle.jsemantics.specs.jmachine.MachineSteps.{fetched, own_fields}
 use Rattle.jsemantics.specs.jmachine.BasicInstructions.{Held, holding, local, moved, stack}
 use Rattle.jsimulation_laws.specs.between.BetweenMachines.{context_of, shadowed, sourced, unmarked}
 use Rattle.jsimulation_laws.specs.relation.InstructionExpansion.{expanded}
+use Rattle.jsimulation_laws.specs.relation.StepCounts.{next_in, steps_of}
 use Rattle.jsimulation_laws.specs.relation.StateRelation.{Frame, FrameStands, Point, Word, entries}
 use Rattle.jsimulation_laws.proofs.LocalProofs.ContextLocals.{HeldStand, Stand, local_both}
 use Rattle.jsimulation_laws.proofs.LocalProofs.RelatedStates.{Newest, Scene, answered, done_here, done_there, stepped}
@@ -66,6 +67,15 @@ module _ (z : Scene) (top : Newest z) where
   }
 
   module _ (i : Instruction) (at : fetched z.p top.f.method top.f.place ≡ Some i) (becomes : expanded top.new.frame.code.place top.new.frame.code.at i ≡ i ∷ []) where
+    last : length (expanded top.new.frame.code.place top.new.frame.code.at i) ≡ 0 + 1
+    last = ap (λ (xs : List Instruction). length xs) becomes
+
+    next : next_in z.p z.s.running.frames ≡ Some i
+    next = taking.next z top i at 0 (g ∷ top.gs) refl top.place top.new.frame.place last
+
+    counts : steps_of (next_in z.p z.s.running.frames) false ≡ 1
+    counts = taking.counts z top i at 0 (g ∷ top.gs) refl top.place top.new.frame.place last
+
     held_by : (o o' : Option (Held (List Item))) → HeldStand most context o o'
         → answered z (g ∷ top.gs) ≡ done_there z (g ∷ top.gs) top.gs
         (by_held (shadowed z.has) (taking.at_behind z g top.gs) (own_fields z.q g.method) z.s.store (entries (g ∷ top.gs)) z.s.running.inherited g o')
@@ -75,9 +85,9 @@ module _ (z : Scene) (top : Newest z) where
         (g ∷ top.gs)
     held_by None o' st is = tt
     held_by (Some h) o' st is =
-        straights.finish z (g ∷ top.gs) (g ∷ top.gs) 0 (omega arith) refl 0 top.fs top.gs (with_held top.f h) top.place st.0
-        (held_at h st.0 st.2) (top.new.bare ∙ ap unmarked (sym top.new.frame.domain)) top.below i at (ap (λ (xs : List Instruction). length xs) becomes) 0
-        (Goes z.s.store [] []) [] tt
+        straights.finish z (g ∷ top.gs) (g ∷ top.gs) 0 counts refl 0 top.fs top.gs (with_held top.f h) top.place st.0
+        (held_at h st.0 st.2) (top.new.bare ∙ ap unmarked (sym top.new.frame.domain)) top.below i at last next
+        (ap (λ (xs : List Frame). length xs) top.here) 0 (Goes z.s.store [] []) [] tt
         (is
         ∙ ap
         (λ (o : Option (Held (List Item))). done_there z (g ∷ top.gs) top.gs

@@ -1,4 +1,4 @@
--- The local simulation, joined: each step of a program is answered by 1 to 7 of the moved one.
+-- The local simulation, joined: each step of a program is answered by as many of the moved one as its instruction tells.
 use Rattle.std.proofs.Common.{◌≡◌, ℕ, Bool, List, [], ◌∷◌, Option, Some, None, refl, sym, ap, ◌∙◌, subst}
 use Rattle.jperm.specs.declared.permission.Permission.{Permission}
 use Rattle.jthreads.specs.declared.thread.Thread.{Thread}
@@ -20,10 +20,13 @@ use Rattle.jsemantics.specs.jmachine.MachineStates.{Outcome}
 use Rattle.jsemantics.specs.jmachine.MachineSteps.{executed, fetched, step, step_at}
 use Rattle.jsemantics.specs.jmachine.Store.{Store}
 use Rattle.jsimulation_laws.specs.between.BetweenMachines.{Noted, sourced}
-use Rattle.jsimulation_laws.specs.stuttering.StutteringRuns.{Answers}
+use Rattle.jsimulation_laws.specs.stuttering.StutteringRuns.{AnswersIn}
 use Rattle.jsimulation_laws.specs.relation.InstructionExpansion.{way_of}
 use Rattle.jsimulation_laws.specs.relation.ProgramRelation.{Moves}
-use Rattle.jsimulation_laws.specs.relation.StateRelation.{Frame, FramesStand, LocallyFollows, NewestStands, Point, Stands, Word, before, behind}
+use Rattle.jsimulation_laws.specs.relation.StateRelation.{FollowsInFew, Frame, FramesStand, LocallyFollows, NewestStands, Point, Stands, Word, before, behind}
+use Rattle.jsimulation_laws.specs.relation.StepCounts.{invokes, next_in, steps}
+use Rattle.jsimulation_laws.proofs.RelationProofs.ExpansionLengths.{steps_law}
+use Rattle.jsimulation_laws.proofs.StutteringProofs.CountedAnswers.{follows_within}
 use Rattle.jsimulation_laws.proofs.LocalProofs.UnchangedCalls.{alone_follows}
 use Rattle.jsimulation_laws.proofs.LocalProofs.ControllerCalls.{asking_follows}
 use Rattle.jsimulation_laws.proofs.LocalProofs.ThreadStarts.{thread_begins}
@@ -124,7 +127,7 @@ module _ (has : ℕ → Permission → Bool) (p q : Program) (plan : Plan) (move
       }
 
   abbrev Answered : Point → Type 0
-  Answered u = Answers (Stands p q) (behind has q plan) 7 (before has p plan s) u
+  Answered u = AnswersIn (Stands p q) (behind has q plan) (steps p s (before has p plan s)) (before has p plan s) u
 
   -- the moved program's frame has a place and locals of its own alone
   spot_is : (fs : List Frame) (f g : Frame) → NewestStands p q s.running.inherited fs f g → g ≡ spot f g.place g.locals
@@ -185,3 +188,8 @@ module _ (has : ℕ → Permission → Bool) (p q : Program) (plan : Plan) (move
 
 pub locally_follows : PrivilegedSame → LocallyFollows
 locally_follows same has p q plan moves s t st = state_follows has p q plan moves same s t st
+
+-- and so by 1 to 7
+pub follows_in_few : LocallyFollows → FollowsInFew
+follows_in_few local has p q plan moves =
+    follows_within (Stands p q) (behind has q plan) 7 (before has p plan) (steps p) (λ s o. steps_law (next_in p s.running.frames) (invokes s o)) (local has p q plan moves)

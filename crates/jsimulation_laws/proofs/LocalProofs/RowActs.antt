@@ -1,6 +1,7 @@
 -- What a row makes of the frames, on both sides: whatever its act.
 use Rattle.std.proofs.Common.{◌≡◌, ℕ, suc, ◌+◌, ◌<◌, ◌≤◌, Bool, true, false, List, [], ◌∷◌, ◌++◌, length, Option, Some, None, option_map, refl, sym, ap, ◌∙◌, subst, arith}
 use Rattle.std.specs.Prelude.{nat_le, if◌then◌else◌}
+use Rattle.std.proofs.lemmas.Bool.{le-ltb, lt-ltb}
 use Rattle.jvalues.specs.declared.jops.value.Value.TheVariants.{Ctx}
 use Rattle.jlib.specs.declared.classes.LibClass.{LibClass}
 use Rattle.jthreads.specs.declared.thread.Thread.{Thread as Entered}
@@ -26,12 +27,14 @@ use Rattle.jsemantics.specs.jmachine.ThreadTurns.{ended, thread_of, with_ended, 
 use Rattle.jsemantics.specs.jmachine.Unwinding.{resumed, told_name, unwound, with_raised}
 use Rattle.jsemantics.specs.jmachine.World.{world}
 use Rattle.jsimulation_laws.specs.between.BetweenMachines.{Noted, context_of, shadowed, sourced, unmarked}
-use Rattle.jsimulation_laws.specs.stuttering.StutteringRuns.{Answers}
+use Rattle.jsimulation_laws.specs.stuttering.StutteringRuns.{AnswersIn, Leads, LeadsOut}
 use Rattle.jsimulation_laws.specs.relation.InstructionExpansion.{expanded}
 use Rattle.jsimulation_laws.specs.relation.ProgramRelation.{Moves}
+use Rattle.jsimulation_laws.specs.relation.StepCounts.{frames_of, instruction_steps, next_in, steps, steps_of}
 use Rattle.jsimulation_laws.specs.relation.StateRelation.{BelowStands, Frame, FrameStands, FramesStand, Guest, OlderStands, Point, Stands, Word, entries}
 use Rattle.jsimulation_laws.proofs.LocalProofs.RelatedStates.{Scene, acted_here, acted_there, answered, applied_here, applied_there, follows, other}
 use Rattle.jsimulation_laws.proofs.LocalProofs.MovedStates.{act_led, row_by, spot, stands_at, there}
+use Rattle.jsimulation_laws.proofs.LocalProofs.FrameCounts.{NoMore, left_less, made_less, running_less, running_more, thrown_less, turned_less}
 use Rattle.jsimulation_laws.proofs.LocalProofs.FrameExits.{UnwoundStand, returned_stands, unwound_stands}
 use Rattle.jsimulation_laws.proofs.LocalProofs.Locals as locals
 use Rattle.jsimulation_laws.proofs.LocalProofs.Prologues.{prologue_steps}
@@ -47,18 +50,28 @@ pub record Callable (p q : Program) (moves : Moves p q) (inherited : Option (Lis
   pub domain : (marked entry f).entry.domain ≡ domain_of p f.method
   pub context : c ≡ context_of (entries (marked entry f ∷ fs)) inherited
 
--- before a call no more than two silent steps were made
-abbrev pub Can : (p q : Program) → Moves p q → Option (List Item) → ℕ → List Frame → Frame → Act (List Item) Noted → List Item → Type 0
-Can p q moves inherited n fs f (Calls m arguments entry) c =
-    (n ≤ 2) × ((body : CodeBody) (is : code_at p m ≡ Some body) → Callable p q moves inherited fs f m arguments entry c body is)
-Can p q moves inherited n fs f act c = Unit {0}
+-- what invokes a method is answered by the silent steps before its call, the call and the four of the prologue
+abbrev pub Can : (p q : Program) → Moves p q → Option (List Item) → Instruction → ℕ → List Frame → Frame → Act (List Item) Noted → List Item → Type 0
+Can p q moves inherited i n fs f (Calls m arguments entry) c =
+    (instruction_steps i true ≡ n + 5) × ((body : CodeBody) (is : code_at p m ≡ Some body) → Callable p q moves inherited fs f m arguments entry c body is)
+Can p q moves inherited i n fs f act c = Unit {0}
 
 heir_of_kept : (k : List Item) (n : ℕ) → Some k ≡ None → n ≡ 0
 heir_of_kept k n e = absurd cc
 
 module _ (z : Scene) where
   abbrev pub A : Outcome Point → List Frame → Type 0
-  A o gs0 = Answers (Stands z.p z.q) (follows z) 7 o (other z gs0)
+  A o gs0 = AnswersIn (Stands z.p z.q) (follows z) (steps z.p z.s o) o (other z gs0)
+
+  -- the steps that answer the next one, where it invokes a method and where it doesn't
+  abbrev pub steps_by : Bool → ℕ
+  steps_by invokes = steps_of (next_in z.p z.s.running.frames) invokes
+
+  pub steps_on : (s' : Point) (events : List Event) → frames_of s' ≤ frames_of z.s → steps z.p z.s (Went s' events) ≡ steps_by false
+  steps_on s' events less = ap steps_by (le-ltb (frames_of z.s) (frames_of s') less)
+
+  pub steps_into : (s' : Point) (events : List Event) → frames_of z.s < frames_of s' → steps z.p z.s (Went s' events) ≡ steps_by true
+  steps_into s' events more = ap steps_by (lt-ltb (frames_of z.s) (frames_of s') more)
 
   -- the running thread goes on with other frames, over another store
   pub running_on : (fs gs gs1 : List Frame) (x : Store (List Item)) → FramesStand z.p z.q z.s.running.inherited fs gs
@@ -87,12 +100,18 @@ module _ (z : Scene) where
       }) z.plan.schedule events
 
   -- the machine of the moved program comes in some silent steps from the frames gs0 to the frames gs1, and its last step does this
-  module _ (gs0 gs1 : List Frame) (n : ℕ) (few : n ≤ 6) (quiet : Silently (follows z) n (other z gs0) (other z gs1)) where
-    pub goes : (s' v : Point) (events : List Event) → answered z gs1 ≡ Went v events → Stands z.p z.q s' v → A (Went s' events) gs0
-    goes s' v events is stands = (suc n, omega arith, omega arith, v, then_goes (follows z) n (other z gs0) (other z gs1) v events quiet is, stands)
+  module _ (gs0 gs1 : List Frame) (n : ℕ) (counts : steps_by false ≡ suc n) (quiet : Silently (follows z) n (other z gs0) (other z gs1)) where
+    pub goes : (s' v : Point) (events : List Event) → answered z gs1 ≡ Went v events → Stands z.p z.q s' v → frames_of s' ≤ frames_of z.s → A (Went s' events) gs0
+    goes s' v events is stands less = (
+      v,
+      subst (λ j. Leads (follows z) j (other z gs0) events v) (sym (steps_on s' events less ∙ counts))
+          (then_goes (follows z) n (other z gs0) (other z gs1) v events quiet is),
+      stands,
+    )
 
     pub over : (s' v : Point) (events : List Event) (end : End) → answered z gs1 ≡ Over v events end → A (Over s' events end) gs0
-    over s' v events end is = (suc n, omega arith, omega arith, then_ends (follows z) n (other z gs0) (other z gs1) v events end quiet is)
+    over s' v events end is =
+        subst (λ j. LeadsOut (follows z) j (other z gs0) events end) (sym counts) (then_ends (follows z) n (other z gs0) (other z gs1) v events end quiet is)
 
     -- where the heap has too few cells both end
     pub where_paid : (b : Bool) (o o' : Outcome Point) → (answered z gs1 ≡ o' → A o gs0)
@@ -106,7 +125,8 @@ module _ (z : Scene) where
     module _ (more : ℕ) (fs gs : List Frame) (f : Frame) (place : ℕ) (ys : List (Option Word)) (frame : FrameStands z.p z.q z.s.running.inherited more fs f (spot f place ys))
         (bare : f.entry ≡ unmarked f.entry.domain)
         (below : BelowStands z.p z.q z.s.running.inherited fs gs) (i : Instruction) (at : fetched z.p f.method f.place ≡ Some i)
-        (last : length (expanded frame.code.place frame.code.at i) ≡ more + 1) where
+        (last : length (expanded frame.code.place frame.code.at i) ≡ more + 1) (next : next_in z.p z.s.running.frames ≡ Some i)
+        (deep : length z.s.running.frames ≡ suc (length fs)) where
       abbrev g : Frame
       g = spot f place ys
 
@@ -115,6 +135,9 @@ module _ (z : Scene) where
           stands_at z.p z.q z.s.running.inherited fs more f g frame 0 (f.place + 1) (place + 1) (values ++ f.operands) (values ++ f.operands)
           (let next = frame.code.next f.place i at in let here : place ≡ frame.code.at f.place + more = frame.place in omega (arith, next, here, last)) refl
 
+      as_deep : suc (length fs) ≤ length z.s.running.frames
+      as_deep = omega (arith, deep)
+
       went : (charge : ℕ) (x : Store (List Item)) (values : List Word) (events : List Event)
           → answered z gs1 ≡ acted_there z gs1 (g ∷ gs) charge (Goes x values events)
           → A (acted_here z (f ∷ fs) charge (Goes x values events)) gs0
@@ -122,6 +145,7 @@ module _ (z : Scene) where
       went charge x values events is =
           goes (with_running z.s (onward f values ∷ fs) (paid charge x)) (with_running (other z gs1) (onward g values ∷ gs) (paid charge x)) events is
           (running_on (onward f values ∷ fs) (onward g values ∷ gs) gs1 (paid charge x) (record { frame = onwards values; bare = bare ∙ ap unmarked frame.domain }, below))
+          (running_less z.s (onward f values ∷ fs) (paid charge x) as_deep)
 
       jumped : (charge to : ℕ)
           → answered z gs1 ≡ acted_there z gs1 (g ∷ gs) charge (Jumps (frame.code.at to))
@@ -138,12 +162,13 @@ module _ (z : Scene) where
             },
             below,
           ))
+          (running_less z.s (standing f to f.operands ∷ fs) (paid charge z.s.store) as_deep)
 
       -- what an outcome is on the other side
-      matched : (o o' : Outcome Point) → Matches z.p z.q o o' → answered z gs1 ≡ o' → A o gs0
-      matched (Went u events) o' m is = goes u m.0 events (is ∙ m.1) m.2
-      matched (Over u events end) o' m is = over u m.0 events end (is ∙ m.1)
-      matched NoStep o' m is = tt
+      matched : (o o' : Outcome Point) → Matches z.p z.q o o' → NoMore (frames_of z.s) o → answered z gs1 ≡ o' → A o gs0
+      matched (Went u events) o' m less is = goes u m.0 events (is ∙ m.1) m.2 less
+      matched (Over u events end) o' m less is = over u m.0 events end (is ∙ m.1)
+      matched NoStep o' m less is = tt
 
       -- f as an older frame stands, for handlers
       older : OlderStands z.p z.q z.s.running.inherited fs f g
@@ -251,11 +276,22 @@ module _ (z : Scene) where
             },
           )
 
+      switched_less : (charge : ℕ) (table : List Entered) → NoMore (frames_of z.s) (acted_here z (f ∷ fs) charge (Switches table))
+      unfolding acted
+      switched_less charge table =
+          turned_less (frames_of z.s) z.plan.schedule (with_table (with_running z.s (onward f [] ∷ fs) (paid charge z.s.store)) table) []
+          (running_less z.s (onward f [] ∷ fs) (paid charge z.s.store) as_deep)
+
+      guest_less : (charge : ℕ) (x : Store (List Item)) (runnable : ℕ) (k : List Item) → NoMore (frames_of z.s) (acted_here z (f ∷ fs) charge (Makes x runnable k))
+      unfolding acted
+      guest_less charge x runnable k =
+          made_less z.s (onward f [] ∷ fs) (paid charge x) (record { frames = []; inherited = Some k; runnable = runnable; failed = false }) refl as_deep
+
       leaves : (charge : ℕ) (values : List Word) → answered z gs1 ≡ acted_there z gs1 (g ∷ gs) charge (Leaves values) → A (acted_here z (f ∷ fs) charge (Leaves values)) gs0
       unfolding acted
       leaves charge values is =
           matched (left (sourced z.has) z.p z.plan z.s fs (paid charge z.s.store) values) (left (shadowed z.has) z.q z.plan (other z gs1) gs (paid charge z.s.store) values)
-          (returned fs gs below (paid charge z.s.store) values) is
+          (returned fs gs below (paid charge z.s.store) values) (left_less (sourced z.has) z.p z.plan z.s fs (paid charge z.s.store) values (omega (arith, deep))) is
 
       raises : (charge : ℕ) (events : List Event) (class : LibClass) (message : Option (List ℕ))
           → answered z gs1 ≡ acted_there z gs1 (g ∷ gs) charge (Raises events class message) → A (acted_here z (f ∷ fs) charge (Raises events class message)) gs0
@@ -263,14 +299,16 @@ module _ (z : Scene) where
       raises charge events class message is =
           let x = with_raised (paid charge z.s.store) class message in
           matched (raised (sourced z.has) z.p z.plan z.s (f ∷ fs) events x) (raised (shadowed z.has) z.q z.plan (other z gs1) (g ∷ gs) events x)
-          (thrown_matches x events (length x.objects) (object_at x (length x.objects))) is
+          (thrown_matches x events (length x.objects) (object_at x (length x.objects)))
+          (thrown_less (sourced z.has) z.p z.plan z.s (f ∷ fs) x events (length x.objects) (object_at x (length x.objects)) as_deep) is
 
       throws : (charge k : ℕ) → answered z gs1 ≡ acted_there z gs1 (g ∷ gs) charge (Throws k) → A (acted_here z (f ∷ fs) charge (Throws k)) gs0
       unfolding acted
       throws charge k is =
           matched (thrown_at (sourced z.has) z.p z.plan z.s (f ∷ fs) (paid charge z.s.store) [] k)
           (thrown_at (shadowed z.has) z.q z.plan (other z gs1) (g ∷ gs) (paid charge z.s.store) [] k)
-          (thrown_matches (paid charge z.s.store) [] k (object_at (paid charge z.s.store) k)) is
+          (thrown_matches (paid charge z.s.store) [] k (object_at (paid charge z.s.store) k))
+          (thrown_less (sourced z.has) z.p z.plan z.s (f ∷ fs) (paid charge z.s.store) [] k (object_at (paid charge z.s.store) k) as_deep) is
 
       -- ---- calls
 
@@ -300,11 +338,11 @@ module _ (z : Scene) where
       }
 
       calls_on : (charge : ℕ) (m : MethodId) (arguments : List Word) (entry : Option Noted) (c : List Item) (body : CodeBody) (is : code_at z.p m ≡ Some body)
-          → n ≤ 2 → Callable z.p z.q z.moves z.s.running.inherited fs f m arguments entry c body is
+          → instruction_steps i true ≡ n + 5 → Callable z.p z.q z.moves z.s.running.inherited fs f m arguments entry c body is
           → answered z gs1 ≡ acted_there z gs1 (g ∷ gs) charge (Calls m (Ctx c ∷ arguments) entry)
           → A (acted_here z (f ∷ fs) charge (Calls m arguments entry)) gs0
       unfolding acted sourced shadowed
-      calls_on charge m arguments entry c body is some k came =
+      calls_on charge m arguments entry c body is many k came =
           let code = z.moves.codes m body is in
           let old = marked entry f in
           let older' = marked entry g in
@@ -330,18 +368,18 @@ module _ (z : Scene) where
             pushed_stands z.p z.q z.moves z.s.running.inherited m body is code c arguments (old ∷ fs) k.fills k.context,
             (older_marked entry k.domain, below),
           ) in
+          let deeper = running_more z.s (first_frame z.p m arguments body ∷ old ∷ fs) (paid charge z.s.store) (ap suc (sym deep)) in
+          let taken : steps z.p z.s (Went u []) ≡ n + 5 = steps_into u [] deeper ∙ ap (λ o. steps_of o true) next ∙ many in
           subst (λ (o : Outcome Point). A o gs0) (sym one) (
-            n + 5,
-            omega arith,
-            omega (arith, some),
             there u z.es (ready ∷ older' ∷ gs) z.ls,
-            silent_leads (follows z) (n + 5) (other z gs0) (there u z.es (ready ∷ older' ∷ gs) z.ls) all,
+            subst (λ j. Leads (follows z) j (other z gs0) [] (there u z.es (ready ∷ older' ∷ gs) z.ls)) (sym taken)
+                (silent_leads (follows z) (n + 5) (other z gs0) (there u z.es (ready ∷ older' ∷ gs) z.ls) all),
             running_on (first_frame z.p m arguments body ∷ old ∷ fs) (ready ∷ older' ∷ gs) gs1 (paid charge z.s.store) frames,
           )
 
       -- a method without code isn't pushed
       calls_by : (charge : ℕ) (m : MethodId) (arguments : List Word) (entry : Option Noted) (c : List Item) (o : Option CodeBody) → code_at z.p m ≡ o
-          → Can z.p z.q z.moves z.s.running.inherited n fs f (Calls m arguments entry) c
+          → Can z.p z.q z.moves z.s.running.inherited i n fs f (Calls m arguments entry) c
           → answered z gs1 ≡ acted_there z gs1 (g ∷ gs) charge (Calls m (Ctx c ∷ arguments) entry)
           → A (acted_here z (f ∷ fs) charge (Calls m arguments entry)) gs0
       unfolding acted sourced
@@ -355,7 +393,7 @@ module _ (z : Scene) where
 
       -- ---- all acts
 
-      acts : (charge : ℕ) (act : Act (List Item) Noted) (c : List Item) → Can z.p z.q z.moves z.s.running.inherited n fs f act c
+      acts : (charge : ℕ) (act : Act (List Item) Noted) (c : List Item) → Can z.p z.q z.moves z.s.running.inherited i n fs f act c
           → answered z gs1 ≡ acted_there z gs1 (g ∷ gs) charge (act_led frame.code.at c act)
           → A (acted_here z (f ∷ fs) charge act) gs0
       acts charge (Goes x values events) c can is = went charge x values events is
@@ -365,9 +403,11 @@ module _ (z : Scene) where
       acts charge (Raises events class message) c can is = raises charge events class message is
       acts charge (Throws x) c can is = throws charge x is
       acts charge (Switches table) c can is =
-          matched (acted_here z (f ∷ fs) charge (Switches table)) (acted_there z gs1 (g ∷ gs) charge (Switches table)) (switched charge table) is
+          matched (acted_here z (f ∷ fs) charge (Switches table)) (acted_there z gs1 (g ∷ gs) charge (Switches table)) (switched charge table) (switched_less charge table)
+          is
       acts charge (Makes x runnable k) c can is =
-          matched (acted_here z (f ∷ fs) charge (Makes x runnable k)) (acted_there z gs1 (g ∷ gs) charge (Makes x runnable k)) (made charge x runnable k) is
+          matched (acted_here z (f ∷ fs) charge (Makes x runnable k)) (acted_there z gs1 (g ∷ gs) charge (Makes x runnable k)) (made charge x runnable k)
+          (guest_less charge x runnable k) is
 
       cells_led : (to : ℕ → ℕ) (c : List Item) (act : Act (List Item) Noted) → raised_cells (act_led to c act) ≡ raised_cells act
       cells_led to c (Goes x values events) = refl
@@ -383,7 +423,7 @@ module _ (z : Scene) where
       paid_by charge act cells =
           if nat_le (charge + cells) z.s.store.left then acted_there z gs1 (g ∷ gs) (charge + cells) act else Over (other z gs1) [] HeapFull
 
-      pub finish : (charge : ℕ) (act : Act (List Item) Noted) (c : List Item) → Can z.p z.q z.moves z.s.running.inherited n fs f act c
+      pub finish : (charge : ℕ) (act : Act (List Item) Noted) (c : List Item) → Can z.p z.q z.moves z.s.running.inherited i n fs f act c
           → answered z gs1 ≡ applied_there z gs1 (g ∷ gs) (row_by charge (act_led frame.code.at c act))
           → A (applied_here z (f ∷ fs) (row_by charge act)) gs0
       unfolding applied

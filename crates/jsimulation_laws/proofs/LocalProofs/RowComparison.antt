@@ -1,5 +1,5 @@
 -- Groups of instructions: what each takes is the same on both sides, so that its rows alone are compared.
-use Rattle.std.proofs.Common.{◌≡◌, ℕ, ◌+◌, ◌≤◌, Bool, true, false, List, [], ◌∷◌, length, Option, Some, None, option_map, Result, Ok, Err, refl, sym, ap, ◌∙◌, subst, arith}
+use Rattle.std.proofs.Common.{◌≡◌, ℕ, suc, ◌+◌, Bool, true, false, List, [], ◌∷◌, length, Option, Some, None, option_map, Result, Ok, Err, refl, sym, ap, ◌∙◌, subst, arith}
 use Rattle.std.specs.Prelude.{slice_get}
 use Rattle.jvalues.specs.declared.jops.value.DivideByZero.{DivideByZero}
 use Rattle.jvalues.specs.jops.Operations.{divide, one, two}
@@ -22,6 +22,8 @@ use Rattle.jsemantics.specs.jmachine.World.{world}
 use Rattle.jsimulation_laws.specs.between.BetweenMachines.{Noted, shadowed, sourced, unmarked}
 use Rattle.jsimulation_laws.specs.relation.InstructionExpansion.{expanded}
 use Rattle.jsimulation_laws.specs.relation.StateRelation.{Frame, Point, Word, entries}
+use Rattle.jsimulation_laws.specs.relation.StepCounts.{next_in, steps_of}
+use Rattle.jsimulation_laws.proofs.RelationProofs.ExpansionLengths.{expanded_law}
 use Rattle.jsimulation_laws.proofs.StutteringProofs.Silences.{Silently}
 use Rattle.jsimulation_laws.proofs.LocalProofs.WorldAgreement.{taken_same}
 use Rattle.jsimulation_laws.proofs.LocalProofs.RowActs as straights
@@ -115,7 +117,7 @@ module _ (z : Scene) where
     to = top.new.frame.code.at
 
     pub can_do : (n : ℕ) (xs : List Word) (act : Act (List Item) Noted) → CallsNothing act
-        → straights.Can z.p z.q z.moves z.s.running.inherited n top.fs (with_operands top.f xs) act []
+        → straights.Can z.p z.q z.moves z.s.running.inherited i n top.fs (with_operands top.f xs) act []
     can_do n xs (Calls m arguments entry) free = absurd free
     can_do n xs (Goes x values events) free = tt
     can_do n xs (Jumps k) free = tt
@@ -126,15 +128,26 @@ module _ (z : Scene) where
     can_do n xs (Makes x runnable k) free = tt
 
     -- after n silent steps the last instruction of the expansion takes its operands and does what this one's row is led to
-    module _ (n : ℕ) (few : n ≤ 6) (gs1 : List Frame) (quiet : Silently (follows z) n (other z (g ∷ top.gs)) (other z gs1)) (more at' : ℕ)
-        (place-is : at' ≡ to top.f.place + more) (last : length (expanded top.new.frame.code.place to i) ≡ more + 1) where
-      pub led_row : (c : List Item) (xs : List Word) (r : Row (List Item) Noted) → straights.Can z.p z.q z.moves z.s.running.inherited n top.fs (with_operands top.f xs) r.act c
+    module _ (n : ℕ) (gs1 : List Frame) (quiet : Silently (follows z) n (other z (g ∷ top.gs)) (other z gs1)) (at' : ℕ)
+        (place-is : at' ≡ to top.f.place + n) (last : length (expanded top.new.frame.code.place to i) ≡ n + 1) where
+      pub next : next_in z.p z.s.running.frames ≡ Some i
+      next = ap (λ (xs : List Frame). next_in z.p xs) top.here ∙ at
+
+      -- where no method is invoked the answer takes as many steps as there are instructions
+      pub counts : steps_of (next_in z.p z.s.running.frames) false ≡ suc n
+      counts =
+          let a : steps_of (next_in z.p z.s.running.frames) false ≡ length (expanded top.new.frame.code.place to i)
+          = ap (λ o. steps_of o false) next ∙ sym (expanded_law top.new.frame.code.place to i) in
+          omega (arith, a, last)
+
+      pub led_row : (c : List Item) (xs : List Word) (r : Row (List Item) Noted) → straights.Can z.p z.q z.moves z.s.running.inherited i n top.fs (with_operands top.f xs) r.act c
           → answered z gs1 ≡ done_there z gs1 top.gs (Some (does (spot (with_operands top.f xs) at' top.ys) (row_led to c r)))
           → A (done_here z top.fs (Some (does (with_operands top.f xs) (r)))) (g ∷ top.gs)
       led_row c xs r can is =
-          straights.finish z (g ∷ top.gs) gs1 n few quiet more top.fs top.gs (with_operands top.f xs) at' top.ys
-          (stands_at z.p z.q z.s.running.inherited top.fs 0 top.f g top.new.frame more top.f.place at' xs xs place-is refl)
-          (top.new.bare ∙ ap unmarked (sym top.new.frame.domain)) top.below i at last r.charge r.act c can is
+          straights.finish z (g ∷ top.gs) gs1 n counts quiet n top.fs top.gs (with_operands top.f xs) at' top.ys
+          (stands_at z.p z.q z.s.running.inherited top.fs 0 top.f g top.new.frame n top.f.place at' xs xs place-is refl)
+          (top.new.bare ∙ ap unmarked (sym top.new.frame.domain)) top.below i at last next
+          (ap (λ (xs : List Frame). length xs) top.here) r.charge r.act c can is
 
       pub led_by : (xs : List Word) (o o' : Option (Row (List Item) Noted)) → Led to o o'
           → answered z gs1 ≡ done_there z gs1 top.gs (option_map (does (spot (with_operands top.f xs) at' top.ys)) o')
@@ -156,7 +169,7 @@ module _ (z : Scene) where
         (g ∷ top.gs)
     alone x becomes None row row' leads is = tt
     alone x becomes (Some t) row row' leads is =
-        led_by 0 (omega arith) (g ∷ top.gs) refl 0 top.place top.new.frame.place (ap (λ (xs : List Instruction). length xs) becomes) t.below (row t.values) (row' t.values)
+        led_by 0 (g ∷ top.gs) refl top.place top.new.frame.place (ap (λ (xs : List Instruction). length xs) becomes) t.below (row t.values) (row' t.values)
         (leads t.values) is
 
     pub fetches : (x : Instruction) → expanded top.new.frame.code.place to i ≡ x ∷ [] → fetched z.q g.method g.place ≡ Some x

@@ -28,6 +28,9 @@ use Rattle.jsimulation_laws.specs.between.BetweenMachines.{Noted, context_of, sh
 use Rattle.jsimulation_laws.specs.relation.InstructionExpansion.{moved_target}
 use Rattle.jsimulation_laws.specs.relation.ProgramRelation.{run_of}
 use Rattle.jsimulation_laws.specs.relation.StateRelation.{Frame, FramesStand, Point, Word}
+use Rattle.jsimulation_laws.specs.relation.StepCounts.{frames_of, next_in, steps, steps_of}
+use Rattle.jsimulation_laws.specs.stuttering.StutteringRuns.{Leads}
+use Rattle.jsimulation_laws.proofs.LocalProofs.FrameCounts.{NoMore, ended_less, running_more, thrown_less, zero_le}
 use Rattle.jsimulation_laws.proofs.LocalProofs.Locals as locals
 use Rattle.jsimulation_laws.proofs.LocalProofs.Prologues.{paid_none, prologue_steps}
 use Rattle.jsimulation_laws.proofs.LocalProofs.PushedFrames.{begun_there, first_frame, pushed_stands, ready_frame, there_frame}
@@ -37,17 +40,24 @@ use Rattle.jsimulation_laws.proofs.LocalProofs.MovedStates.{there}
 use Rattle.jsimulation_laws.proofs.LocalProofs.RowActs as straights
 use Rattle.jsimulation_laws.proofs.LocalProofs.ThreadTurns.{Matches, long_same}
 
-module _ (z : Scene) where
+module _ (z : Scene) (empty : z.s.running.frames ≡ []) where
   abbrev S : List Frame → Point
   S gs = other z gs
 
   abbrev A : Outcome Point → Type 0
   A o = straights.A z o []
 
-  matched : (o o' : Outcome Point) → Matches z.p z.q o o' → follows z (S []) ≡ o' → A o
-  matched (Went u events) o' m is = straights.goes z [] [] 0 (omega arith) refl u m.0 events (is ∙ m.1) m.2
-  matched (Over u events end) o' m is = straights.over z [] [] 0 (omega arith) refl u m.0 events end (is ∙ m.1)
-  matched NoStep o' m is = tt
+  next : next_in z.p z.s.running.frames ≡ None
+  next = ap (λ (xs : List Frame). next_in z.p xs) empty
+
+  -- what begins no method takes one step
+  counts : steps_of (next_in z.p z.s.running.frames) false ≡ 1
+  counts = ap (λ o. steps_of o false) next
+
+  matched : (o o' : Outcome Point) → Matches z.p z.q o o' → NoMore (frames_of z.s) o → follows z (S []) ≡ o' → A o
+  matched (Went u events) o' m less is = straights.goes z [] [] 0 counts refl u m.0 events (is ∙ m.1) m.2 less
+  matched (Over u events end) o' m less is = straights.over z [] [] 0 counts refl u m.0 events end (is ∙ m.1)
+  matched NoStep o' m less is = tt
 
   -- ---- an exception in place of a method
 
@@ -75,10 +85,11 @@ module _ (z : Scene) where
   fails class came =
       let cells = 0 + raised_cells (raising class) in
       let x = with_raised (paid cells z.s.store) class None in
-      straights.where_paid z [] [] 0 (omega arith) refl (nat_le cells z.s.store.left)
+      straights.where_paid z [] [] 0 counts refl (nat_le cells z.s.store.left)
       (raised (sourced z.has) z.p z.plan z.s [] [] x) (raised (shadowed z.has) z.q z.plan (S []) [] [] x)
       (matched (raised (sourced z.has) z.p z.plan z.s [] [] x) (raised (shadowed z.has) z.q z.plan (S []) [] [] x)
-      (thrown_matches x (length x.objects) (object_at x (length x.objects)))) came
+      (thrown_matches x (length x.objects) (object_at x (length x.objects)))
+      (thrown_less (sourced z.has) z.p z.plan z.s [] x [] (length x.objects) (object_at x (length x.objects)) (zero_le (length z.s.running.frames)))) came
 
   -- ---- a method
 
@@ -116,12 +127,12 @@ module _ (z : Scene) where
         let all : Silently (follows z) 5 (S []) (there u z.es (ready ∷ []) z.ls) = (there u z.es (new ∷ []) z.ls, two, four) in
         let frames : FramesStand z.p z.q z.s.running.inherited (first_frame z.p m values body ∷ []) (ready ∷ [])
         = (pushed_stands z.p z.q z.moves z.s.running.inherited m body is code k values [] fills (ap (λ (o : Option (List Item)). context_of [] o) (sym kept)), tt) in
+        let more = running_more z.s (first_frame z.p m values body ∷ []) z.s.store (ap (λ (xs : List Frame). suc (length xs)) (sym empty)) in
+        let taken : steps z.p z.s (Went u []) ≡ 5 = straights.steps_into z u [] more ∙ ap (λ o. steps_of o true) next in
         subst (λ (o : Outcome Point). A o) (sym one) (
-          5,
-          omega arith,
-          omega arith,
           there u z.es (ready ∷ []) z.ls,
-          silent_leads (follows z) 5 (S []) (there u z.es (ready ∷ []) z.ls) all,
+          subst (λ j. Leads (follows z) j (S []) [] (there u z.es (ready ∷ []) z.ls)) (sym taken)
+              (silent_leads (follows z) 5 (S []) (there u z.es (ready ∷ []) z.ls) all),
           straights.running_on z (first_frame z.p m values body ∷ []) (ready ∷ []) [] z.s.store frames,
         )
 
@@ -162,12 +173,13 @@ module _ (z : Scene) where
   by_runnable : (n : ℕ) (kept : Option (List Item)) → z.s.running.runnable ≡ n → z.s.running.inherited ≡ kept → follows z (S []) ≡ begins (shadowed z.has) z.q z.plan (S []) n
       → A (begins (sourced z.has) z.p z.plan z.s n)
   by_runnable zero kept r i came =
-      matched (ended z.plan.schedule z.s z.s.store false []) (ended z.plan.schedule (S []) z.s.store false []) (straights.ended_matches z [] z.s.store false []) came
+      matched (ended z.plan.schedule z.s z.s.store false []) (ended z.plan.schedule (S []) z.s.store false []) (straights.ended_matches z [] z.s.store false [])
+      (ended_less z.plan.schedule z.s z.s.store false []) came
   by_runnable (suc n) None r i came = let e : suc n ≡ 0 = sym r ∙ z.heir i in absurd (omega (arith, e))
   by_runnable (suc n) (Some k) r i came = by_object (suc n) k i (object_at z.s.store (suc n)) came
 
   -- a thread that has no frames begins, or ends at once
-  pub thread_begins : z.s.running.frames ≡ [] → A (stepped z)
+  pub thread_begins : A (stepped z)
   unfolding step
-  thread_begins empty =
+  thread_begins =
       subst (λ (o : Outcome Point). A o) (sym (ap (step_at (sourced z.has) z.p z.plan z.s) empty)) (by_runnable z.s.running.runnable z.s.running.inherited refl refl refl)

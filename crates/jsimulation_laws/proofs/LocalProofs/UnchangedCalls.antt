@@ -1,5 +1,5 @@
 -- Calls that hand on nothing: each is answered by itself.
-use Rattle.std.proofs.Common.{◌≡◌, ℕ, true, false, List, [], ◌∷◌, length, Option, Some, None, option_map, refl, sym, ap, ◌∙◌, subst, arith}
+use Rattle.std.proofs.Common.{◌≡◌, ℕ, true, false, List, [], ◌∷◌, length, Option, Some, None, option_map, refl, sym, ap, ◌∙◌, subst}
 use Rattle.std.specs.Prelude.{option_and_then, slice_get}
 use Rattle.jlib.specs.declared.calls.LibCall.{LibCall}
 use Rattle.jlib.specs.declared.calls.LibCall.TheVariants as calls
@@ -173,7 +173,7 @@ module _ (z : Scene) (top : Newest z) (by : InvokeKind) (c : CallMeaning) (at : 
   -- A call that hands on nothing is answered by itself.
   pub alone_follows : taking.A z (stepped z) (spot top.f top.place top.ys ∷ top.gs)
   alone_follows =
-      call.call_follows z top by c at by c [] 0 (omega arith) quiet
+      call.call_follows z top by c at by c [] 0 quiet
       (call.nth z top by c at 0 (Used (Call by c)) (ap (λ (xs : List Instruction). slice_get xs 0) becomes))
       (ap (λ (xs : List Instruction). length xs) becomes)
       (call_taken_same here_at (world z.q) z.moves.classes z.s.store by c top.f.operands ∙ no_front (call.taken_here z top by c at))

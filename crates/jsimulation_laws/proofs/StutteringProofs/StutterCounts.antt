@@ -23,6 +23,18 @@ module _ {S : Type 0} (step : S → Outcome S) where
   no_more zero r end e = refl
   no_more (suc k) r end e = ap (λ (x : Run S). run_from step k x) (ap (next_at step r) e) ∙ no_more k r end e
 
+  pub stuck : {P : Type 0} (told : List Event) (s : S) (m : ℕ) → 1 ≤ m → step s ≡ NoStep → IsUnstuck step (going told s) m → P
+  stuck told s m le is free =
+      let here = none_yet (going told s) in
+      absurd (free 0 le (ap (λ (r : Run S). r.end) here) (ap (λ (r : Run S). step r.state) here ∙ is))
+
+  -- what goes on is unstuck for one step less
+  pub free_on : (told : List Event) (s s' : S) (events : List Event) (n m : ℕ) → step s ≡ Went s' events → suc n ≤ m → IsUnstuck step (going told s) m
+      → IsUnstuck step (going (told ++ events) s') n
+  free_on told s s' events n m is le free k within e none =
+      let on = one_more k told s (Went s' events) is in
+      free (suc k) (omega arith) (ap (λ (r : Run S). r.end) on ∙ e) (ap (λ (r : Run S). step r.state) on ∙ none)
+
 no_end : {P : Type 0} (end : End) → None ≡ Some end → P
 no_end end e = absurd cc
 
@@ -74,18 +86,6 @@ module _ {S T : Type 0} (R : S → T → Type 0) (fast : S → Outcome S) (slow 
         near = λ e. (let no : None ≡ Some end = sym e ∙ ap (λ (r : Run S). r.end) fast-is in no_end end no);
       }
 
-  stuck : {P : Type 0} (told : List Event) (s : S) (m : ℕ) → 1 ≤ m → fast s ≡ NoStep → IsUnstuck fast (going told s) m → P
-  stuck told s m le is free =
-      let here = none_yet fast (going told s) in
-      absurd (free 0 le (ap (λ (r : Run S). r.end) here) (ap (λ (r : Run S). fast r.state) here ∙ is))
-
-  -- what goes on is unstuck for one step less
-  free_on : (told : List Event) (s s' : S) (events : List Event) (n m : ℕ) → fast s ≡ Went s' events → suc n ≤ m → IsUnstuck fast (going told s) m
-      → IsUnstuck fast (going (told ++ events) s') n
-  free_on told s s' events n m is le free k within e none =
-      let on = one_more fast k told s (Went s' events) is in
-      free (suc k) (omega arith) (ap (λ (r : Run S). r.end) on ∙ e) (ap (λ (r : Run S). fast r.state) on ∙ none)
-
   abbrev Again : ℕ → Type 0
   Again fuel = (n : ℕ) (told : List Event) (s : S) (t : T) → n ≤ fuel → R s t → IsUnstuck fast (going told s) n → Keeps fast slow most (going told s) (going told t) n
 
@@ -96,14 +96,14 @@ module _ {S T : Type 0} (R : S → T → Type 0) (fast : S → Outcome S) (slow 
       elim (cases_lt m a.0) as (λ _. Keeps fast slow most (going told s) (going told t) m) [
         | inl lt ↦ early m told s t a.0 a.2 lt (a.4.before m lt told)
         | inr ge ↦ onward fuel m told s t s' events is le a.0 a.1 a.2 ge a.3 a.4
-            (again (m - a.0) (told ++ events) s' a.3 (omega (arith, a.1)) a.5 (free_on told s s' events (m - a.0) m is (omega (arith, a.1)) free))
+            (again (m - a.0) (told ++ events) s' a.3 (omega (arith, a.1)) a.5 (free_on fast told s s' events (m - a.0) m is (omega (arith, a.1)) free))
       ]
   keeps_on fuel m told s t (Over s' events end) is some le a free again =
       elim (cases_lt m a.0) as (λ _. Keeps fast slow most (going told s) (going told t) m) [
         | inl lt ↦ early m told s t a.0 a.2 lt (a.3.before m lt told)
         | inr ge ↦ over m told s t s' events end is a.0 a.1 ge a.3
       ]
-  keeps_on fuel m told s t NoStep is some le a free again = stuck told s m some is free
+  keeps_on fuel m told s t NoStep is some le a free again = stuck fast told s m some is free
 
   -- the fuel is a bound of m
   pub keeps : (fuel m : ℕ) (told : List Event) (s : S) (t : T) → 0 < most → m ≤ fuel → R s t → IsUnstuck fast (going told s) m
@@ -134,7 +134,7 @@ module _ {S T : Type 0} (R : S → T → Type 0) (fast : S → Outcome S) (slow 
       → Ends fast slow most (going told s) (going told t) (suc n)
   ends_on n told s t (Went s' events) is a end e free again =
       let fast-is = one_more fast n told s (Went s' events) is in
-      let ih = again (told ++ events) s' a.3 a.5 (sym (ap (λ (r : Run S). r.end) fast-is) ∙ e) (free_on told s s' events n (suc n) is (omega arith) free) in
+      let ih = again (told ++ events) s' a.3 a.5 (sym (ap (λ (r : Run S). r.end) fast-is) ∙ e) (free_on fast told s s' events n (suc n) is (omega arith) free) in
       let slow-is : run_from slow (a.0 + ih.j) (going told t) ≡ run_from slow ih.j (going (told ++ events) a.3)
       = later slow a.0 ih.j (a.0 + ih.j) (going told t) refl ∙ ap (λ (r : Run T). run_from slow ih.j r) (a.4.comes told) in
       record {
@@ -153,7 +153,7 @@ module _ {S T : Type 0} (R : S → T → Type 0) (fast : S → Outcome S) (slow 
         events = done.events ∙ sym (ap (λ (r : Run S). r.events) fast-is);
         end = done.ends ∙ sym (ap (λ (r : Run S). r.end) fast-is);
       }
-  ends_on n told s t NoStep is a end e free again = stuck told s (suc n) (omega arith) is free
+  ends_on n told s t NoStep is a end e free again = stuck fast told s (suc n) (omega arith) is free
 
   pub ends_so : (n : ℕ) (told : List Event) (s : S) (t : T) (end : End) → R s t → (run_from fast n (going told s)).end ≡ Some end → IsUnstuck fast (going told s) n
       → Ends fast slow most (going told s) (going told t) n

@@ -16,9 +16,10 @@ use Rattle.jsemantics.specs.jmachine.FrameOperations.{domain_of}
 use Rattle.jsemantics.specs.jmachine.MachineSteps.{fetched, step}
 use Rattle.jsemantics.specs.jmachine.BasicInstructions.{local_at}
 use Rattle.jsimulation_laws.specs.between.BetweenMachines.{Noted, context_of, shadowed, sourced, unmarked}
-use Rattle.jsimulation_laws.specs.stuttering.StutteringRuns.{Follows}
+use Rattle.jsimulation_laws.specs.stuttering.StutteringRuns.{Follows, FollowsIn}
 use Rattle.jsimulation_laws.specs.relation.InstructionExpansion.{expanded}
 use Rattle.jsimulation_laws.specs.relation.ProgramRelation.{MovedCode, Moves}
+use Rattle.jsimulation_laws.specs.relation.StepCounts.{steps}
 
 abbrev pub Word : Type 0
 Word = Value (List Item)
@@ -117,6 +118,10 @@ before has p plan s = step (sourced has) p plan s
 abbrev pub behind : (ℕ → Permission → Bool) → Program → Plan → Point → Outcome Point
 behind has q plan t = step (shadowed has) q plan t
 
--- Each step of a program is answered by 1 to 7 of the moved one.
+-- Each step of a program is answered by as many of the moved one as its instruction tells,
 abbrev pub LocallyFollows : Type 0
-LocallyFollows = (has : ℕ → Permission → Bool) (p q : Program) (plan : Plan) → Moves p q → Follows (Stands p q) (before has p plan) (behind has q plan) 7
+LocallyFollows = (has : ℕ → Permission → Bool) (p q : Program) (plan : Plan) → Moves p q → FollowsIn (Stands p q) (before has p plan) (behind has q plan) (steps p)
+
+-- and so by 1 to 7.
+abbrev pub FollowsInFew : Type 0
+FollowsInFew = (has : ℕ → Permission → Bool) (p q : Program) (plan : Plan) → Moves p q → Follows (Stands p q) (before has p plan) (behind has q plan) 7

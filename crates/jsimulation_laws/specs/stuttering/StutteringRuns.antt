@@ -1,5 +1,5 @@
 -- Two machines, of which the one takes several steps for each of the other: what a run of the slower one tells, and in how many steps.
-use Rattle.std.specs.Prelude.{◌≡◌, ◌<◌, ◌≤◌, ◌+◌, ◌*◌, ℕ, List, [], ◌++◌, Some, None}
+use Rattle.std.specs.Prelude.{◌≡◌, ◌<◌, ◌≤◌, ◌+◌, ◌*◌, ℕ, zero, suc, List, [], ◌++◌, Some, None}
 use Rattle.joutput.specs.declared.jtrace.event.Event.{Event}
 use Rattle.joutput.specs.declared.jtrace.event.End.{End}
 use Rattle.jsemantics.specs.jmachine.MachineStates.{Outcome, Went, Over, NoStep}
@@ -41,6 +41,16 @@ Answers R step most NoStep t = Unit {0}
 -- each step of the one is answered by the other
 abbrev pub Follows : {S T : Type 0} → (S → T → Type 0) → (S → Outcome S) → (T → Outcome T) → ℕ → Type 0
 Follows {S} {T} R fast slow most = (s : S) (t : T) → R s t → Answers R slow most (fast s) t
+
+-- The same where it is known how many steps these are.
+abbrev pub AnswersIn : {S T : Type 0} → (S → T → Type 0) → (T → Outcome T) → ℕ → Outcome S → T → Type 0
+AnswersIn R step j (Went s events) t = (u : _) × Leads step j t events u × R s u
+AnswersIn R step j (Over s events end) t = LeadsOut step j t events end
+AnswersIn R step j NoStep t = Unit {0}
+
+-- each step of the one is answered by as many as `count` says, by its state and by what its step comes to
+abbrev pub FollowsIn : {S T : Type 0} → (S → T → Type 0) → (S → Outcome S) → (T → Outcome T) → (S → Outcome S → ℕ) → Type 0
+FollowsIn {S} {T} R fast slow count = (s : S) (t : T) → R s t → AnswersIn R slow (count s (fast s)) (fast s) t
 
 -- ---- whole runs
 
@@ -106,3 +116,16 @@ EndsBehindAll {S} {T} R = (fast : S → Outcome S) (slow : T → Outcome T) (mos
     → (lead n m : ℕ) (told : List Event) (s : S) (t u : T) (end : End) → Leads slow lead t [] u → R s u
     → (run_from fast n (going told s)).end ≡ Some end → IsUnstuck fast (going told s) n → lead + most * n ≤ m
     → Same fast slow (going told s) (going told t) n m
+
+-- ---- counted runs
+
+-- how many steps of the slower machine answer the first k of the other, where `count` says how many answer each
+abbrev pub counted : {S : Type 0} → (S → Outcome S) → (S → Outcome S → ℕ) → ℕ → S → ℕ
+counted fast count zero s = 0
+counted fast count (suc k) s = count s (fast s) + (elim (fast s) [ Went t events ↦ counted fast count k t | _ ↦ 0 ])
+
+-- After these both have told the same, and ended alike.
+abbrev pub CountsAll : {S T : Type 0} → (S → T → Type 0) → Type 0
+CountsAll {S} {T} R = (fast : S → Outcome S) (slow : T → Outcome T) (count : S → Outcome S → ℕ) → FollowsIn R fast slow count
+    → (k : ℕ) (told : List Event) (s : S) (t : T) → R s t → IsUnstuck fast (going told s) k
+    → Same fast slow (going told s) (going told t) k (counted fast count k s)

@@ -2,7 +2,10 @@ use Rattle.jpass_laws.proofs.RunProgress.{inspected_unstuck, passes_all}
 use Rattle.jpass_laws.proofs.laws.moved_laws.Goals as goal
 
 pub returns-clause-states : goal.returns-clause-states
-returns-clause-states c = λ has p plan links typed small. c.stand_law.ensures has p _ plan (c.moves_law.ensures p links typed small)
+returns-clause-states c = λ has p plan links typed small. c.stand_law.ensures.counted has p _ plan (c.moves_law.ensures p links typed small)
+
+pub returns-clause-few : goal.returns-clause-few
+returns-clause-few c = λ has p plan links typed small. c.stand_law.ensures.few has p _ plan (c.moves_law.ensures p links typed small)
 
 pub returns-clause-runs : goal.returns-clause-runs
 returns-clause-runs c = λ has p plan name links typed small is.

@@ -1,3 +1,4 @@
+use Rattle.jsimulation_laws.proofs.StutteringProofs.CountedAnswers.{counts_law}
 use Rattle.jsimulation_laws.proofs.StutteringProofs.LeadCounts.{ends_behind_law, keeps_behind_law}
 use Rattle.jsimulation_laws.proofs.StutteringProofs.StutterCounts.{ends_law, keeps_law}
 use Rattle.jsimulation_laws.proofs.stuttering.laws.count_laws.Goals as goal
@@ -13,3 +14,6 @@ returns-clause-keeps_behind g c = λ by. keeps_behind_law (g.P.TwoStates.stands 
 
 pub returns-clause-ends_behind : goal.returns-clause-ends_behind
 returns-clause-ends_behind g c = λ by. ends_behind_law (g.P.TwoStates.stands by)
+
+pub returns-clause-counted : goal.returns-clause-counted
+returns-clause-counted g c = λ by. counts_law (g.P.TwoStates.stands by)
