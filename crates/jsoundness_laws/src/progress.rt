@@ -7,7 +7,7 @@
 //!
 //! Proved, of such a program (`states_laws`): a typed state has a step, which comes to a typed state; the state in which a run begins is typed;
 //! so is the one behind each number of steps, on any plan, and no run is ever stuck; and its `main` has code. What linking says of methods,
-//! their code and statics is shown; what it says of an instruction's class, field or call is not yet.
+//! their code and statics is shown here; what it says of an instruction's class, field or call is shown in `program`.
 
 mod laws;
 

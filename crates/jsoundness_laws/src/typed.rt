@@ -6,7 +6,8 @@
 //! - `TypedUses`: what linking says of the fields and classes that instructions name (`IsField`, `IsNew`).
 //! - `TypedCalls`: what linking says of calls (`IsCall`, `IsInit`), what a method may be given (`IsGiven`), and what calls come to (`IsTarget`).
 //! - `TypedActions`: what an instruction is to do, by the frame that the typing rule gives behind it (`CanDo`). `ControlFlow`: where that leads
-//!   in its method (`LeadsOn`). `FrameStacks`: the frames of a thread (`AreStacked`). `ProgressLaws`, `RuntimeAssignability`: the laws.
+//!   in its method (`LeadsOn`). `FrameStacks`: the frames of a thread (`AreStacked`), of which each older one stands at a call (`Awaits`).
+//!   `ProgressLaws`, `RuntimeAssignability`: the laws.
 //!
 //! Proved, of a typed store and a frame that suits: each instruction that calls no method has a row, and what it does suits the frame behind
 //! it, in a typed store behind (`frame_laws`), so that in a method whose instructions have frames it leads on (`leading_law`); each call comes

@@ -179,15 +179,10 @@ module _ {K E : Type 0} (r : Rules K E) (p : Program) (plan : Plan) (s : State K
     coded = x.coded;
     is_typed = x.is_typed;
     news = x.news;
-    shape = x.shape;
-    there = x.there;
-    before = x.before;
-    behind = x.behind;
-    continues = x.continues;
-    locals = x.locals;
-    rest = x.rest;
-    stack = x.stack;
-    operands = x.operands;
+    at = x.at;
+    returns = x.returns;
+    before = record { locals = x.before.locals; operands = x.before.operands };
+    after = record { locals = x.after.locals; operands = x.after.operands };
   }
 
   older_marked : (ret : Option VType) (entry : Option E) (f : FrameOf K E) (below : List (FrameOf K E)) → Awaits p s.store ret f → Older p s.store (returns_at p f.method) below

@@ -1,5 +1,5 @@
 -- Calls leave frames that stand or await what they called.
-use Rattle.std.proofs.Common.{◌≡◌, ℕ, suc, ◌+◌, pos, inr, arith, Bool, true, false, List, [], ◌∷◌, ◌++◌, length, Option, Some, None, refl, sym, ap, subst, ◌∙◌}
+use Rattle.std.proofs.Common.{◌≡◌, ℕ, suc, ◌+◌, inr, arith, Bool, true, false, List, [], ◌∷◌, ◌++◌, length, Option, Some, None, refl, sym, ap, subst, ◌∙◌}
 use Rattle.std.specs.List.{AllByRecursion}
 use Rattle.std.specs.Option.{option_to_list}
 use Rattle.std.specs.Prelude.{if◌then◌else◌}
@@ -24,7 +24,6 @@ use Rattle.jresolution.specs.juses.InstructionMeanings.{CallMeaning}
 use Rattle.jresolution.specs.juses.DescriptorTypes.{Called, Typed, typed}
 use Rattle.jtyping.specs.jrule.InstructionContext.{Here}
 use Rattle.jtyping.specs.jrule.PoolEffects.{of_library}
-use Rattle.jtyping.specs.jwelltyped.DeclaredFrames.{declared_at, written}
 use Rattle.jtyping.specs.jwelltyped.MethodPremises.{here_of}
 use Rattle.jsemantics.specs.declared.jmachine.plan.Plan.{Plan}
 use Rattle.jsemantics.specs.jmachine.MachineStates.{Act, Calls, FrameOf, Goes, Makes, Raises, Row, State, Switches, free, raises}
@@ -38,19 +37,15 @@ use Rattle.jsemantics.specs.jmachine.InstructionSites.{Site}
 use Rattle.jsemantics.specs.jmachine.Store.{Store}
 use Rattle.jsemantics.specs.jmachine.World.{world}
 use Rattle.jsoundness_laws.specs.typed.TypedCalls.{Coded, IsGiven, IsInitTarget, IsTarget, method}
-use Rattle.jsoundness_laws.specs.typed.TypedFrames.{AllHave, AllHold, Has, Holds, News, Suits}
-use Rattle.jsoundness_laws.specs.typed.ControlFlow.{inside}
+use Rattle.jsoundness_laws.specs.typed.TypedFrames.{AllHave, AllHold, Has, Holds, News}
 use Rattle.jsoundness_laws.specs.typed.StoreGrowth.{Grows}
 use Rattle.jsoundness_laws.specs.typed.FrameStacks.{Awaits, Guarded, Stands}
 use Rattle.jsoundness_laws.specs.typed.TypedStores.{IsStored}
 use Rattle.jsoundness_laws.specs.typed.TypedUses.{static_types}
 use Rattle.jsoundness_laws.specs.typed.TypedValues.{AreOf, HasDimensions, IsA}
-use Rattle.jsoundness_laws.proofs.TypedProofs.CallTargets.{have_all}
 use Rattle.jsoundness_laws.proofs.TypedProofs.Dimensions.{IsTypedNamed}
-use Rattle.jsoundness_laws.proofs.TypedProofs.StraightSuccessors.{arrived_at}
-use Rattle.jsoundness_laws.proofs.TypedProofs.StoreMonotonicity.{all_kept, grows_itself, have_kept}
-use Rattle.jsoundness_laws.proofs.TypedProofs.TypedValues.{have_given}
-use Rattle.jsoundness_laws.proofs.TypedProofs.States.{coded_dimensions}
+use Rattle.jsoundness_laws.proofs.TypedProofs.StoreMonotonicity.{grows_itself}
+use Rattle.jsoundness_laws.proofs.TypedProofs.States.{awaits_later, returned_suits}
 use Rattle.jsoundness_laws.specs.library.LibraryArguments.{way_of}
 use Rattle.jsoundness_laws.specs.library.YieldLaws.{AreSided}
 use Rattle.jsoundness_laws.specs.library.LibraryResults.{IsAction, IsReadied, YieldsOf, run_given}
@@ -115,37 +110,10 @@ ret_dimensions p t params ret e h = go ret (subst (λ t. IsTypedNamed p t) e h)
 pub goes_onward : {K E : Type 0} (p : Program) → IsFounded p → (t : Store K) (f : FrameOf K E) (ret : Option VType) (values : List (Value K)) → (x : Awaits p t ret f)
     → AreOf (world p) t (option_to_list ret) values → AllByRecursion HasDimensions (option_to_list ret) → Stands p t (onward f values)
 goes_onward p sound t f ret values x are dims =
-    let m = method p f.method x.coded in
-    let here = inside p m in
-    let next = onward f values in
-    let given = have_given (world p) t here x.news ret values x.rest f.operands (have_all (world p) t here x.news (option_to_list ret) values dims are) x.operands in
-    let suits : Suits (world p) t here x.news x.behind next = record {
-      locals = x.locals;
-      operands = subst (λ ts. AllHave (world p) t here x.news ts (values ++ f.operands)) (sym x.stack) given;
-    } in
-    let at = arrived_at p sound.stands t m (written p m) x.is_typed.frames (coded_dimensions p f.method x.coded) x.news x.behind (suc f.place) next suits
-    x.continues.frame (pos x.continues.next.at) (declared_at (written p m) (pos x.continues.next.at)) x.continues.there refl x.continues.arrives in
-    stands_by p f.method x.coded x.is_typed x.news t (suc f.place) next at refl (sym (suc_is f.place))
+    stands_by p f.method x.coded x.is_typed x.news t (suc f.place) (onward f values) (returned_suits p t ret f x values sound.stands are dims) refl (sym (suc_is f.place))
   where
     suc_is : (n : ℕ) → n + 1 ≡ suc n
     suc_is n = omega arith
-
-pub awaits_later : {K E : Type 0} (p : Program) (s t : Store K) → Grows (world p) s t → (ret : Option VType) (f : FrameOf K E) → Awaits p s ret f → Awaits p t ret f
-awaits_later p s t grows ret f x =
-    let here = inside p (method p f.method x.coded) in record {
-      coded = x.coded;
-      is_typed = x.is_typed;
-      news = x.news;
-      shape = x.shape;
-      there = x.there;
-      before = all_kept (world p) s t grows here x.news x.shape.locals f.locals x.before;
-      behind = x.behind;
-      continues = x.continues;
-      locals = all_kept (world p) s t grows here x.news x.behind.locals f.locals x.locals;
-      rest = x.rest;
-      stack = x.stack;
-      operands = have_kept (world p) s t grows here x.news x.rest f.operands x.operands;
-    }
 
 -- what a thread inherits is what `run` is given
 handed_kept : {K : Type 0} (p : Program) (t : Store K) (side : Side) (kept : K) → AreOf (world p) t (run_given side) (handed side (Some kept))

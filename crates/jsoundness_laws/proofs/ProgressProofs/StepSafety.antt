@@ -1,5 +1,5 @@
 -- A typed state has a step, which comes to a typed state.
-use Rattle.std.proofs.Common.{◌≡◌, ◌⊎◌, ℕ, zero, suc, ◌+◌, inl, inr, arith, false, List, [], ◌∷◌, ◌++◌, Option, Some, None, option_map, refl, sym, ap, subst, ◌∙◌}
+use Rattle.std.proofs.Common.{◌≡◌, ◌⊎◌, ℕ, zero, suc, ◌+◌, inl, inr, arith, false, List, [], ◌∷◌, ◌++◌, length, drop, Option, Some, None, option_map, refl, sym, ap, subst, ◌∙◌}
 use Rattle.std.specs.Option.{option_to_list}
 use Rattle.std.specs.Prelude.{slice_get}
 use Rattle.jparts.specs.declared.jcode.op.Placed.{Placed}
@@ -24,7 +24,7 @@ use Rattle.jtyping.specs.jrule.PoolEffects.{of_library}
 use Rattle.jtyping.specs.jwelltyped.DeclaredFrames.{written}
 use Rattle.jtyping.specs.jwelltyped.MethodPremises.{Method, here_of}
 use Rattle.jtyping.specs.jwelltyped.WellTypedness.{Serves}
-use Rattle.jtyping.proofs.JwelltypedProofs.Successors.{gives_rule, number_onward}
+use Rattle.jtyping.proofs.JwelltypedProofs.Successors.{gives_rule}
 use Rattle.jsemantics.specs.declared.jmachine.plan.Plan.{Plan}
 use Rattle.jsemantics.specs.jmachine.MachineStates.{Act, Calls, FrameOf, Goes, Jumps, Leaves, Makes, Outcome, Raises, Row, State, Switches, Throws, free, raises}
 use Rattle.jsemantics.specs.jmachine.CallTargets.{Fails, Pushes, Runs, Target, by_interface}
@@ -37,20 +37,20 @@ use Rattle.jsemantics.specs.jmachine.MachineSteps as steps
 use Rattle.jsemantics.specs.jmachine.MachineSteps.{acted, begun_on, done, entries, executed, fetched, first_done, first_row, own_fields, site, step, step_at}
 use Rattle.jsemantics.specs.jmachine.Store.{Store, object_at}
 use Rattle.jsemantics.specs.jmachine.World.{world}
-use Rattle.jsoundness_laws.specs.typed.TypedCalls.{CanInit, IsAboveHere, IsCall, IsInit, IsTarget, IsUsable, method}
+use Rattle.jsoundness_laws.specs.typed.TypedCalls.{CanInit, IsAboveHere, IsCall, IsInit, IsTarget, IsUsable, method, operand_count}
 use Rattle.jsoundness_laws.specs.typed.ProgressLaws.{IsStraight}
 use Rattle.jsoundness_laws.specs.typed.TypedFrames.{AllHave, AllHold, News, Suits}
 use Rattle.jsoundness_laws.specs.typed.ControlFlow.{Leads, inside}
 use Rattle.jsoundness_laws.specs.typed.StoreGrowth.{Grows}
-use Rattle.jsoundness_laws.specs.typed.FrameStacks.{AreStacked, Awaits, Guarded, Older, Stands, returns_at}
+use Rattle.jsoundness_laws.specs.typed.FrameStacks.{AreStacked, Awaits, Guarded, Older, Stands, TypedCall, returns_at, without}
 use Rattle.jsoundness_laws.specs.typed.TypedUses.{static_types}
 use Rattle.jsoundness_laws.specs.typed.TypedValues.{AreOf, IsA}
 use Rattle.jsoundness_laws.proofs.TypedProofs.TypedCalls.{calls_do}
 use Rattle.jsoundness_laws.proofs.TypedProofs.Dimensions.{typed_named}
 use Rattle.jsoundness_laws.proofs.TypedProofs.StraightSuccessors.{straight_leads}
-use Rattle.jsoundness_laws.proofs.TypedProofs.StoreMonotonicity.{all_kept, grows_itself}
+use Rattle.jsoundness_laws.proofs.TypedProofs.StoreMonotonicity.{grows_itself, suits_later}
 use Rattle.jsoundness_laws.proofs.TypedProofs.Inits.{inits_do}
-use Rattle.jsoundness_laws.proofs.TypedProofs.States.{coded_dimensions, returns_is}
+use Rattle.jsoundness_laws.proofs.TypedProofs.States.{coded_dimensions, drop_returned, returns_is}
 use Rattle.jsoundness_laws.specs.library.YieldLaws.{AreSided, run_call}
 use Rattle.jsoundness_laws.specs.library.LibraryResults.{IsReadied, run_given}
 use Rattle.jsoundness_laws.proofs.LibraryProofs.RunSelection.{run_users}
@@ -140,29 +140,48 @@ module _ {K E : Type 0} (r : Rules K E) (p : Program) (plan : Plan) (s : State K
       serves : Serves p m (written p m) x.is_typed.frames f.place o x.suits.shape
       serves = serves_at p sound f.method x.coded x.is_typed f.place x.suits.shape x.suits.there o op
 
+      ruled : (by : InvokeKind) (c : CallMeaning) → i ≡ Used (meanings.Call by c) → rule p here (Used (meanings.Call by c)) x.suits.shape ≡ Some serves.behind
+      ruled by c is = subst (λ i. rule p here i x.suits.shape ≡ Some serves.behind) is (gives_rule p m (written p m) x.is_typed.frames f.place o x.suits.shape i serves means)
+
       suits_here : Suits (world p) s.store here x.news x.suits.shape f
       suits_here = record {
         locals = all_there p s.store f.method x.coded 0 o.at x.news x.suits.shape.locals f.locals x.suits.suits.locals;
         operands = have_there p s.store f.method x.coded 0 o.at x.news x.suits.shape.stack f.operands x.suits.suits.operands;
       }
 
+      -- the call that it is
+      abbrev typed_call : (by : InvokeKind) (c : CallMeaning) → i ≡ Used (meanings.Call by c) → TypedCall p m x.is_typed.frames f.place
+      typed_call by c is = record {
+        op = o;
+        stands = op;
+        by = by;
+        call = c;
+        means = means ∙ ap (λ i. Some i) is;
+        shape = x.suits.shape;
+        there = x.suits.there;
+        behind = serves.behind;
+        gives = ruled by c is;
+      }
+
       -- with the operands taken it awaits
-      awaits : (t : Store K) → Grows (world p) s.store t → (by : InvokeKind) (c : CallMeaning) → i ≡ Used (meanings.Call by c) → (under : List (Value K)) (rest : List VType)
-          → serves.behind.stack ≡ (option_to_list c.ret ++ rest) → AllHold (world p) t here x.news serves.behind.locals f.locals → AllHave (world p) t here x.news rest under
+      awaits : (t : Store K) → Grows (world p) s.store t → (by : InvokeKind) (c : CallMeaning) → i ≡ Used (meanings.Call by c) → (under : List (Value K))
+          → AllHave (world p) s.store here x.news (drop (operand_count by c) x.suits.shape.stack) under → (rest : List VType) → serves.behind.stack ≡ (option_to_list c.ret ++ rest) → AllHold (world p) t here x.news serves.behind.locals f.locals → AllHave (world p) t here x.news rest under
           → Awaits p t c.ret (with_operands f under)
-      awaits t grows by c is under rest stack locals operands = record {
+      awaits t grows by c is under left rest stack locals operands = record {
         coded = x.coded;
         is_typed = x.is_typed;
         news = x.news;
-        shape = x.suits.shape;
-        there = x.suits.there;
-        before = all_kept (world p) s.store t grows (inside p m) x.news x.suits.shape.locals f.locals x.suits.suits.locals;
-        behind = serves.behind;
-        continues = number_onward p m (written p m) x.is_typed.frames f.place o x.suits.shape (Used (meanings.Call by c)) serves (means ∙ ap (λ i. Some i) is) refl;
-        locals = all_there p t f.method x.coded o.at 0 x.news serves.behind.locals f.locals locals;
-        rest = rest;
-        stack = stack;
-        operands = have_there p t f.method x.coded o.at 0 x.news rest under operands;
+        at = typed_call by c is;
+        returns = refl;
+        before = suits_later K E (world p) s.store t (inside p m) x.news (without (operand_count by c) x.suits.shape) (with_operands f under) grows (record {
+          locals = x.suits.suits.locals;
+          operands = have_there p s.store f.method x.coded o.at 0 x.news (drop (operand_count by c) x.suits.shape.stack) under left;
+        });
+        after = record {
+          locals = all_there p t f.method x.coded o.at 0 x.news serves.behind.locals f.locals locals;
+          operands = have_there p t f.method x.coded o.at 0 x.news (drop (length (option_to_list c.ret)) serves.behind.stack) under
+              (subst (λ ts. AllHave (world p) t here x.news ts under) (sym (ap (drop (length (option_to_list c.ret))) stack ∙ drop_returned c.ret rest)) operands);
+        };
       }
 
       same : Grows (world p) s.store s.store
@@ -175,19 +194,17 @@ module _ {K E : Type 0} (r : Rules K E) (p : Program) (plan : Plan) (s : State K
 
       call_comes : (by : InvokeKind) (c : CallMeaning) → i ≡ Used (meanings.Call by c) → begins by ≡ false → IsCall p by c → Comes (done r p plan s below (doing_it i))
       call_comes by c is plain linked =
-          let ruled = subst (λ i. rule p here i x.suits.shape ≡ Some serves.behind) is (gives_rule p m (written p m) x.is_typed.frames f.place o x.suits.shape i serves means) in
           let can = calls_do K E r at (own_fields p f.method) s.store carried s.running.inherited p here x.news by c x.suits.shape serves.behind f sound.stands sound.code
-          (is_at p f.method x.coded at o.at refl refl) plain linked suits_here ruled in
-          let waits = awaits s.store same by c is can.under can.rest can.stack can.locals can.operands in
+          (is_at p f.method x.coded at o.at refl refl) plain linked suits_here (ruled by c is) in
+          let waits = awaits s.store same by c is can.under can.left can.rest can.stack can.locals can.operands in
           row_comes can.under (called r at (own_fields p f.method) s.store carried s.running.inherited can.values can.target) (ap (λ i. doing_it i) is ∙ can.does)
           (target_done r p plan s sound state on_side sided at (own_fields p f.method) carried s.running.inherited refl refl by c.ret can.values (with_operands f can.under) can.target
           (ret_dimensions p (typed p (desc_of p c.member)) c.params c.ret linked.typed_as (typed_named p (desc_of p c.member))) waits (guarded_taken can.under) can.comes)
 
       init_comes : (c : CallMeaning) → i ≡ Used (meanings.Call how.Init c) → IsAboveHere p here → IsInit p c → Comes (done r p plan s below (doing_it i))
       init_comes c is above linked =
-          let ruled = subst (λ i. rule p here i x.suits.shape ≡ Some serves.behind) is (gives_rule p m (written p m) x.is_typed.frames f.place o x.suits.shape i serves means) in
           let can = inits_do K E r at (own_fields p f.method) s.store carried s.running.inherited p here x.news c x.suits.shape serves.behind f sound.stands sound.code
-          (is_at p f.method x.coded at o.at refl refl) above linked suits_here ruled in
+          (is_at p f.method x.coded at o.at refl refl) above linked suits_here (ruled how.Init c is) in
           row_comes can.under (called r at (own_fields p f.method) s.store carried s.running.inherited can.values can.target) (ap (λ i. doing_it i) is ∙ can.does)
           (init_done r p plan s sound state on_side sided at (own_fields p f.method) carried s.running.inherited refl refl c can.values (with_operands f can.under) can.target
           (ret_dimensions p (typed p (desc_of p c.member)) c.params c.ret linked.typed_as (typed_named p (desc_of p c.member)))
@@ -195,11 +212,11 @@ module _ {K E : Type 0} (r : Rules K E) (p : Program) (plan : Plan) (s : State K
           (λ n pushes. then_awaits can s.store same (can.usable n pushes)) (guarded_taken can.under) can.comes)
         where
           Done : Type 0
-          Done = CanInit r at (own_fields p f.method) s.store carried s.running.inherited p here x.news c serves.behind f
+          Done = CanInit r at (own_fields p f.method) s.store carried s.running.inherited p here x.news c x.suits.shape serves.behind f
 
           then_awaits : (can : Done) (t : Store K) → Grows (world p) s.store t → IsA (world p) t (types.Object can.class) (Ref can.number)
               → Awaits p t c.ret (with_operands f can.under)
-          then_awaits can t grows whole = let ready = can.ready t grows whole in awaits t grows how.Init c is can.under can.rest can.stack ready.0 ready.1
+          then_awaits can t grows whole = let ready = can.ready t grows whole in awaits t grows how.Init c is can.under can.left can.rest can.stack ready.0 ready.1
 
           of_number : (can : Done) (t : Store K) → IsReadied how.Init can.values t → IsUsable t can.number
           of_number can t ready = subst (λ n. IsUsable t n) (same_ref {K = K} ready.0 can.number (sym ready.1 ∙ can.on)) ready.2

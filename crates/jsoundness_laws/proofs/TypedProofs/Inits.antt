@@ -1,10 +1,10 @@
 -- Calls of an `<init>` in typed frames.
-use Rattle.std.proofs.Common.{◌≡◌, ℕ, zero, suc, Bool, true, false, ◌&&◌, ◌||◌, ◌==◌, not, List, [], ◌∷◌, ◌++◌, map, reverse, Option, Some, None, ◌⊎◌, inl, inr, refl, sym, ap, subst, arith, ◌∙◌}
+use Rattle.std.proofs.Common.{◌≡◌, ℕ, zero, suc, Bool, true, false, ◌&&◌, ◌||◌, ◌==◌, not, List, [], ◌∷◌, ◌++◌, length, drop, map, reverse, Option, Some, None, ◌⊎◌, inl, inr, refl, sym, ap, subst, arith, ◌∙◌}
 use Rattle.std.specs.List.{AllByRecursion}
 use Rattle.std.specs.Option.{option_to_list}
 use Rattle.std.specs.Prelude.{option_and_then, option_map, slice_get, if◌then◌else◌}
 use Rattle.std.specs.Str.{bytes_eq}
-use Rattle.std.proofs.lemmas.List.{reverse-append, reverse-reverse}
+use Rattle.std.proofs.lemmas.List.{length-map, reverse-append, reverse-reverse}
 use Rattle.jclass.specs.declared.class.CodeBody.{CodeBody}
 use Rattle.jlib.specs.declared.calls.LibCall.{LibCall}
 use Rattle.jlib.specs.declared.classes.LibClass.{LibClass}
@@ -74,7 +74,7 @@ use Rattle.jsoundness_laws.proofs.TypedProofs.StoreMonotonicity.{has_kept, serve
 use Rattle.jsoundness_laws.proofs.TypedProofs.ValueKinds.{known_value, whole_class}
 use Rattle.jsoundness_laws.proofs.TypedProofs.Orders.{in_order}
 use Rattle.jsoundness_laws.proofs.TypedProofs.SelectedMethods.{IsOf, abstract_is, desc_is, method_there, name_is, selected_library, selected_member, static_is, user_name}
-use Rattle.jsoundness_laws.proofs.TypedProofs.TakenOperands.{AreServed, took}
+use Rattle.jsoundness_laws.proofs.TypedProofs.TakenOperands.{AreServed, below_drop, drop_next, took}
 use Rattle.jsoundness_laws.proofs.TypedProofs.TypedCalls.{fit_served}
 
 -- ---- the rule
@@ -87,7 +87,7 @@ if_some true x y e = (refl, some_is x y e)
 if_some false x y e = absurd (cc)
 
 -- what is given stands on what is left
-given_is : (most : ℕ) (ret : Option VType) (f g : Frame) → given most ret f ≡ Some g → (g.locals ≡ f.locals) × (g.stack ≡ (option_to_list ret ++ f.stack))
+pub given_is : (most : ℕ) (ret : Option VType) (f g : Frame) → given most ret f ≡ Some g → (g.locals ≡ f.locals) × (g.stack ≡ (option_to_list ret ++ f.stack))
 given_is most None f g e = let same = some_is f g e in (ap (λ (x : Frame). x.locals) (sym same), ap (λ (x : Frame). x.stack) (sym same))
 given_is most (Some a) f g e = let same = roomy most f (a ∷ f.stack) g e in (ap (λ (x : Frame). x.locals) same, ap (λ (x : Frame). x.stack) same)
 
@@ -470,7 +470,7 @@ module _ {K E : Type 0} (r : Rules K E) (at : Site) (own : Member → Bool) (s :
       ∙ ap (λ (w : World). Some (reached at.full (w.itself c.member))) place.program
 
   abbrev Done : Type 0
-  Done = CanInit r at own s entries inherited p here news c behind f
+  Done = CanInit r at own s entries inherited p here news c shape behind f
 
   -- with the arguments taken, and the object below them
   init_taken_does : (stack : List VType) → below (tree p) (map Fits c.params) shape.stack ≡ Some stack → Readies here c.owner c.ret shape.locals stack behind
@@ -481,6 +481,11 @@ module _ {K E : Type 0} (r : Rules K E) (at : Site) (own : Member → Bool) (s :
       let have = took (world p) s here news (tree p) (map Fits c.params) (params_served c.params linked.values) shape.stack f.operands stack suits.operands is in
       split have.values have.under have.is (params_are c.params have.values have.serve) (subst (λ ts. AllHave (world p) s here news ts have.under) x.is have.fit)
     where
+      left_is : drop (suc (length c.params)) shape.stack ≡ x.rest
+      left_is =
+          drop_next (length c.params) shape.stack (unready_type x.it) x.rest
+          (ap (λ n. drop n shape.stack) (sym (length-map c.params Fits)) ∙ below_drop (tree p) (map Fits c.params) shape.stack stack is ∙ x.is)
+
       split : (given under : List (Value K)) → taken (world p) s (map Fits c.params) f.operands ≡ Some (record { values = given; below = under }) → AreOf (world p) s c.params given
           → AllHave (world p) s here news (unready_type x.it ∷ x.rest) under → Done
       split given [] took are fit = absurd fit
@@ -498,6 +503,7 @@ module _ {K E : Type 0} (r : Rules K E) (at : Site) (own : Member → Bool) (s :
           record {
             values = values;
             under = under;
+            left = subst (λ ts. AllHave (world p) s here news ts under) (sym left_is) fit.1;
             target = reached at.full (as_selected p (Some c.member));
             comes = subst (λ vs. IsInitTarget p s c vs (reached at.full (as_selected p (Some c.member)))) same comes;
             class = class_by here c.owner x.it;

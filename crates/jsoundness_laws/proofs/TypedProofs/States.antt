@@ -1,5 +1,5 @@
 -- Frames that go on behind a call, and those that handle an exception.
-use Rattle.std.proofs.Common.{◌≡◌, ℕ, zero, suc, pos, ◌+◌, Bool, true, false, ◌&&◌, ◌||◌, ◌==◌, List, [], ◌∷◌, ◌++◌, Option, Some, None, refl, sym, ap, subst, arith, ◌∙◌}
+use Rattle.std.proofs.Common.{◌≡◌, ℕ, zero, suc, pos, ◌+◌, Bool, true, false, ◌&&◌, ◌||◌, ◌==◌, List, [], ◌∷◌, ◌++◌, length, drop, Option, Some, None, refl, sym, ap, subst, arith, ◌∙◌}
 use Rattle.std.specs.List.{AllByRecursion, find, position}
 use Rattle.std.proofs.lemmas.List.Quantifiers.{position-Some}
 use Rattle.std.proofs.lemmas.Option.{slice_get-get_or}
@@ -23,35 +23,44 @@ use Rattle.jresolution.specs.jprogram.MemberResolution.{desc_of, is_init, part_o
 use Rattle.jresolution.specs.jprogram.ClassFileParts.{code_of, member_desc, this_name}
 use Rattle.jresolution.specs.jprogram.OrderedPrograms.{StandsInOrder}
 use Rattle.jlinking.proofs.JlinkProofs.PresentValues.{then_is}
-use Rattle.jresolution.specs.juses.IndexedInstructions.{body_in}
-use Rattle.jresolution.specs.juses.InstructionMeanings.{class_at}
+use Rattle.jresolution.specs.declared.juses.meaning.InvokeKind.{InvokeKind}
+use Rattle.jresolution.specs.declared.juses.meaning.InvokeKind.TheVariants as how
+use Rattle.jresolution.specs.juses.IndexedInstructions.{Used, body_in}
+use Rattle.jresolution.specs.juses.InstructionMeanings as meanings
+use Rattle.jresolution.specs.juses.InstructionMeanings.{CallMeaning, class_at}
 use Rattle.jresolution.specs.juses.DescriptorTypes.{Called, Held, Typed, Untyped, name, typed}
-use Rattle.jtyping.specs.jrule.StackOperands.{with_stack}
-use Rattle.jtyping.specs.jrule.PoolEffects.{throwable}
+use Rattle.jtyping.specs.jrule.InstructionContext.{Here}
+use Rattle.jtyping.specs.jrule.ObjectRule.{init_on}
+use Rattle.jtyping.specs.jrule.StackOperands.{given, taken, with_stack}
+use Rattle.jtyping.specs.jrule.TypingRule.{rule}
+use Rattle.jtyping.specs.jrule.PoolEffects.{arguments, exchange, of_call, throwable}
 use Rattle.jtyping.specs.jwelltyped.DeclaredFrames.{declared_at, written}
-use Rattle.jtyping.specs.jwelltyped.MethodPremises.{params_of, receiver}
+use Rattle.jtyping.specs.jwelltyped.MethodPremises.{Method as TypedMethod, here_of, params_of, receiver}
 use Rattle.jtyping.specs.jwelltyped.ProofNames.{return_of}
 use Rattle.jtyping.specs.jwelltyped.VerifierTests.{caught_fits, caught_type, leads_in}
+use Rattle.jtyping.specs.jwelltyped.WellTypedness.{Continues}
+use Rattle.jtyping.proofs.JwelltypedProofs.Successors.{gives_rule, number_onward}
 use Rattle.jtyping.proofs.JwelltypedProofs.TypedFrames.{also_at}
 use Rattle.jsemantics.specs.jmachine.MachineStates.{FrameOf}
-use Rattle.jsemantics.specs.jmachine.FrameOperations.{standing}
+use Rattle.jsemantics.specs.jmachine.FrameOperations.{onward, standing}
 use Rattle.jsemantics.specs.jmachine.HeapObjects.{Object, class_of}
 use Rattle.jsemantics.specs.jmachine.Store.{Store, object_at}
 use Rattle.jsemantics.specs.jmachine.Unwinding.{catches, caught, handler_at, handler_from, handler_in, is_caught, number_at, resumed, takes, unwound}
 use Rattle.jparts.specs.jcode.Instructions.{covers}
 use Rattle.jsemantics.specs.jmachine.World.{World, fits as runs_fits, world}
 use Rattle.jtypes.specs.ClassTrees.{Tree}
-use Rattle.jsoundness_laws.specs.typed.TypedCalls.{Coded, method}
+use Rattle.jsoundness_laws.specs.typed.TypedCalls.{Coded, method, operand_count}
 use Rattle.jsoundness_laws.specs.typed.TypedFrames.{AllHave, Suits}
-use Rattle.jsoundness_laws.specs.typed.ControlFlow.{DeclareDimensions, inside}
+use Rattle.jsoundness_laws.specs.typed.ControlFlow.{DeclareDimensions, SuitsAt, inside}
 use Rattle.jsoundness_laws.specs.typed.StoreGrowth.{Grows}
-use Rattle.jsoundness_laws.specs.typed.FrameStacks.{AreGuarded, AreStacked, Awaits, FramesResume, FramesUnwind, Guarded, Older, StackedLater, Stands, returns_at}
+use Rattle.jsoundness_laws.specs.typed.FrameStacks.{AreGuarded, AreStacked, Awaits, FramesResume, FramesUnwind, Guarded, Older, StackedLater, Stands, returns_at, without}
 use Rattle.jsoundness_laws.specs.typed.TypedValues.{AreOf, HasDimensions, IsA, known}
 use Rattle.jsoundness_laws.proofs.TypedProofs.CallTargets.{have_all}
 use Rattle.jsoundness_laws.proofs.TypedProofs.Dimensions.{IsNamed, IsTypedNamed, all_append, all_reversed_by, class_at_named, declare_dimensions, typed_named}
 use Rattle.jsoundness_laws.proofs.TypedProofs.Faces.{faces_of, instance_is}
+use Rattle.jsoundness_laws.proofs.TypedProofs.Inits.{given_is}
 use Rattle.jsoundness_laws.proofs.TypedProofs.StraightSuccessors.{arrived_at, declared_by, fitted_at}
-use Rattle.jsoundness_laws.proofs.TypedProofs.StoreMonotonicity.{all_kept, have_kept}
+use Rattle.jsoundness_laws.proofs.TypedProofs.StoreMonotonicity.{all_kept, have_kept, suits_later}
 use Rattle.jsoundness_laws.proofs.TypedProofs.TypedValues.{has_of, have_given}
 use Rattle.jsoundness_laws.proofs.TypedProofs.ValueKinds.{whole_class}
 use Rattle.jsoundness_laws.proofs.TypedProofs.SelectedMethods.{desc_is}
@@ -86,22 +95,17 @@ module _ {K E : Type 0} (p : Program) (s t : Store K) (grows : Grows (world p) s
         };
       }
 
-  awaits_later : (ret : Option VType) (f : FrameOf K E) → Awaits p s ret f → Awaits p t ret f
+  pub awaits_later : (ret : Option VType) (f : FrameOf K E) → Awaits p s ret f → Awaits p t ret f
   awaits_later ret f x =
       let here = inside p (method p f.method x.coded) in
       record {
         coded = x.coded;
         is_typed = x.is_typed;
         news = x.news;
-        shape = x.shape;
-        there = x.there;
-        before = all_kept (world p) s t grows here x.news x.shape.locals f.locals x.before;
-        behind = x.behind;
-        continues = x.continues;
-        locals = all_kept (world p) s t grows here x.news x.behind.locals f.locals x.locals;
-        rest = x.rest;
-        stack = x.stack;
-        operands = have_kept (world p) s t grows here x.news x.rest f.operands x.operands;
+        at = x.at;
+        returns = x.returns;
+        before = suits_later K E (world p) s t here x.news (without (operand_count x.at.by x.at.call) x.at.shape) f grows x.before;
+        after = suits_later K E (world p) s t here x.news (without (length (option_to_list ret)) x.at.behind) f grows x.after;
       }
 
   pub older_later : (ret : Option VType) (fs : List (FrameOf K E)) → Older p s ret fs → Older p t ret fs
@@ -144,21 +148,70 @@ module _ (p : Program) (m : MethodId) (x : Coded p m) where
   pub returns_is : returns_at p m ≡ (method p m x).returns
   returns_is = ap (λ (d : List ℕ). return_of (typed p d)) (desc_is p m x.part x.info x.stands x.declared)
 
+-- ---- behind a call
+
+-- what is returned stands on the stack behind
+returned_on : (most : ℕ) (ret : Option VType) (o : Option Frame) (g : Frame) → option_and_then (given most ret) o ≡ Some g
+    → (rest : List VType) × (g.stack ≡ (option_to_list ret ++ rest))
+returned_on most ret None g e = absurd (cc)
+returned_on most ret (Some f) g e = (f.stack, (given_is most ret f g e).1)
+
+call_returns : (p : Program) (here : Here) (by : InvokeKind) (c : CallMeaning) (f g : Frame) → rule p here (Used (meanings.Call by c)) f ≡ Some g
+    → (rest : List VType) × (g.stack ≡ (option_to_list c.ret ++ rest))
+unfolding rule exchange
+call_returns p here how.Init c f g e =
+    returned_on here.max_stack c.ret (option_and_then (λ f. init_on here c.owner f f.stack) (taken (tree p) (arguments c) f)) g e
+call_returns p here how.Virtual c f g e = returned_on here.max_stack c.ret (taken (tree p) (of_call here.class how.Virtual c).takes f) g e
+call_returns p here how.Special c f g e = returned_on here.max_stack c.ret (taken (tree p) (of_call here.class how.Special c).takes f) g e
+call_returns p here how.Static c f g e = returned_on here.max_stack c.ret (taken (tree p) (of_call here.class how.Static c).takes f) g e
+call_returns p here how.Interface c f g e = returned_on here.max_stack c.ret (taken (tree p) (of_call here.class how.Interface c).takes f) g e
+
+pub drop_returned : (ret : Option VType) (rest : List VType) → drop (length (option_to_list ret)) (option_to_list ret ++ rest) ≡ rest
+drop_returned None rest = refl
+drop_returned (Some t) rest = refl
+
+module _ {K E : Type 0} (p : Program) (s : Store K) (ret : Option VType) (f : FrameOf K E) (x : Awaits p s ret f) where
+  abbrev Calling : TypedMethod
+  Calling = method p f.method x.coded
+
+  stack_is : x.at.behind.stack ≡ (option_to_list ret ++ drop (length (option_to_list ret)) x.at.behind.stack)
+  stack_is =
+      let on = call_returns p (here_of p Calling x.at.op.at) x.at.by x.at.call x.at.shape x.at.behind x.at.gives in
+      let is : x.at.behind.stack ≡ (option_to_list ret ++ on.0) = on.1 ∙ ap (λ ret. option_to_list ret ++ on.0) x.returns in
+      let left : drop (length (option_to_list ret)) x.at.behind.stack ≡ on.0 = ap (drop (length (option_to_list ret))) is ∙ drop_returned ret on.0 in
+      is ∙ ap (λ rest. option_to_list ret ++ rest) (sym left)
+
+  -- behind its call stands another instruction
+  call_continues : Continues p Calling (written p Calling) x.is_typed.frames f.place x.at.behind
+  call_continues =
+      let i = Used (meanings.Call x.at.by x.at.call) in
+      let serves = x.is_typed.are_frames.serves f.place x.at.op x.at.shape x.at.stands x.at.there in
+      let ruled = gives_rule p Calling (written p Calling) x.is_typed.frames f.place x.at.op x.at.shape i serves x.at.means in
+      let same : serves.behind ≡ x.at.behind = some_is serves.behind x.at.behind (sym ruled ∙ x.at.gives) in
+      subst (λ g. Continues p Calling (written p Calling) x.is_typed.frames f.place g) same
+      (number_onward p Calling (written p Calling) x.is_typed.frames f.place x.at.op x.at.shape i serves x.at.means refl)
+
+  -- with what is returned the frame suits the next instruction
+  pub returned_suits : (values : List (Value K)) → StandsInOrder p → AreOf (world p) s (option_to_list ret) values → AllByRecursion HasDimensions (option_to_list ret)
+      → SuitsAt p Calling x.is_typed.frames x.news s (suc f.place) (onward f values)
+  returned_suits values good are dims =
+      let here = inside p Calling in
+      let rest = drop (length (option_to_list ret)) x.at.behind.stack in
+      let have = have_given (world p) s here x.news ret values rest f.operands (have_all (world p) s here x.news (option_to_list ret) values dims are) x.after.operands in
+      let suits : Suits (world p) s here x.news x.at.behind (onward f values) = record {
+        locals = x.after.locals;
+        operands = subst (λ ts. AllHave (world p) s here x.news ts (values ++ f.operands)) (sym stack_is) have;
+      } in
+      let next = call_continues in
+      arrived_at p good s Calling (written p Calling) x.is_typed.frames (coded_dimensions p f.method x.coded) x.news x.at.behind (suc f.place) (onward f values) suits
+      next.frame (pos next.next.at) (declared_at (written p Calling) (pos next.next.at)) next.there refl next.arrives
+
 -- ---- returns
 
 resumed_suits : {K E : Type 0} (p : Program) (s : Store K) (entry_of : ℕ → E) (f : FrameOf K E) (ret : Option VType) (values : List (Value K)) → StandsInOrder p → (x : Awaits p s ret f)
     → AreOf (world p) s (option_to_list ret) values → AllByRecursion HasDimensions (option_to_list ret) → Stands p s (resumed entry_of p f (f.place + 1) (values ++ f.operands))
 resumed_suits p s entry_of f ret values good x are dims =
-    let m = method p f.method x.coded in
-    let here = inside p m in
-    let next = standing f (f.place + 1) (values ++ f.operands) in
-    let given = have_given (world p) s here x.news ret values x.rest f.operands (have_all (world p) s here x.news (option_to_list ret) values dims are) x.operands in
-    let suits : Suits (world p) s here x.news x.behind next = record {
-      locals = x.locals;
-      operands = subst (λ ts. AllHave (world p) s here x.news ts (values ++ f.operands)) (sym x.stack) given;
-    } in
-    let at = arrived_at p good s m (written p m) x.is_typed.frames (coded_dimensions p f.method x.coded) x.news x.behind (suc f.place) next suits
-    x.continues.frame (pos x.continues.next.at) (declared_at (written p m) (pos x.continues.next.at)) x.continues.there refl x.continues.arrives in
+    let at = returned_suits p s ret f x values good are dims in
     record {
       coded = x.coded;
       is_typed = x.is_typed;
@@ -289,7 +342,7 @@ module _ {K E : Type 0} (p : Program) (good : StandsInOrder p) (s : Store K) (en
       }
 
   guarded : (ret : Option VType) (f : FrameOf K E) → Awaits p s ret f → Guarded p s f
-  guarded ret f x = record { coded = x.coded; is_typed = x.is_typed; news = x.news; shape = x.shape; there = x.there; locals = x.before }
+  guarded ret f x = record { coded = x.coded; is_typed = x.is_typed; news = x.news; shape = x.at.shape; there = x.at.there; locals = x.before.locals }
 
   guarded_older : (ret : Option VType) (fs : List (FrameOf K E)) → Older p s ret fs → AreGuarded p s fs
   guarded_older ret [] h = tt

@@ -1,5 +1,5 @@
 -- Where typing takes operands from its stack, the machine takes values that serve.
-use Rattle.std.proofs.Common.{◌≡◌, Bool, true, false, List, [], ◌∷◌, map, Some, None, option_map, refl, ap, subst, ◌∙◌}
+use Rattle.std.proofs.Common.{◌≡◌, ℕ, zero, suc, Bool, true, false, List, [], ◌∷◌, length, drop, map, Some, None, option_map, refl, ap, subst, ◌∙◌}
 use Rattle.std.specs.Bool.{⊤}
 use Rattle.std.specs.Prelude.{if◌then◌else◌}
 use Rattle.jvalues.specs.declared.jnames.kinds.Kind.{Kind}
@@ -15,6 +15,27 @@ use Rattle.jsemantics.specs.jmachine.World.{World}
 use Rattle.jsoundness_laws.specs.typed.TypedValues.{AllServe, Serves}
 use Rattle.jsoundness_laws.specs.typed.TypedFrames.{AllHave, Has, News}
 use Rattle.jsoundness_laws.proofs.TypedProofs.ValueKinds.{IsPlain, has_kind, served}
+
+-- ---- what stands below
+
+-- below what is wanted stands the stack without as many
+pub below_drop : (t : Tree) (wants : List Want) (ts rest : List VType) → below t wants ts ≡ Some rest → drop (length wants) ts ≡ rest
+unfolding below
+below_drop t [] ts rest e = let same : ts ≡ rest = cc in same
+below_drop t (want ∷ wants) [] rest e = absurd (cc)
+below_drop t (want ∷ wants) (a ∷ ts) rest e = go (meets t want a) (below_drop t wants ts rest) e
+  where
+    go : (b : Bool) → (below t wants ts ≡ Some rest → drop (length wants) ts ≡ rest) → (if b then below t wants ts else None) ≡ Some rest
+        → drop (length wants) ts ≡ rest
+    go false more e = absurd (cc)
+    go true more e = more e
+
+pub drop_next : (n : ℕ) (ts : List VType) (a : VType) (rest : List VType) → drop n ts ≡ a ∷ rest → drop (suc n) ts ≡ rest
+drop_next zero ts a rest e = ap (drop 1) e
+drop_next (suc n) [] a rest e = absurd (cc)
+drop_next (suc n) (b ∷ ts) a rest e = drop_next n ts a rest e
+
+-- ---- what is taken
 
 abbrev pub ArePlain : List Kind → Type 0
 ArePlain [] = ⊤

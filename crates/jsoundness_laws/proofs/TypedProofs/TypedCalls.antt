@@ -1,5 +1,5 @@
 -- Calls in typed frames.
-use Rattle.std.proofs.Common.{◌≡◌, Bool, false, List, [], ◌∷◌, ◌++◌, map, Option, Some, refl, sym, ap, subst, ◌∙◌}
+use Rattle.std.proofs.Common.{◌≡◌, suc, Bool, false, List, [], ◌∷◌, ◌++◌, length, drop, map, Option, Some, refl, sym, ap, subst, ◌∙◌}
 use Rattle.std.specs.List.{AllByRecursion}
 use Rattle.std.specs.Prelude.{option_and_then, option_map}
 use Rattle.jtypes.specs.declared.vtype.Name.{Name}
@@ -29,16 +29,36 @@ use Rattle.jsemantics.specs.jmachine.Security.{Rules}
 use Rattle.jsemantics.specs.jmachine.InstructionSites.{Site}
 use Rattle.jsemantics.specs.jmachine.Store.{Store}
 use Rattle.jsemantics.specs.jmachine.World.{world}
-use Rattle.jsoundness_laws.specs.typed.TypedCalls.{AllHaveCode, CallsDo, CanCall, IsCall}
+use Rattle.jsoundness_laws.specs.typed.TypedCalls.{AllHaveCode, CallsDo, CanCall, IsCall, operand_count}
 use Rattle.jsoundness_laws.specs.typed.RuntimeAssignability.{IsValueType}
-use Rattle.jsoundness_laws.specs.typed.TypedFrames.{AllHold, News, Suits}
+use Rattle.jsoundness_laws.specs.typed.TypedFrames.{AllHave, AllHold, News, Suits}
 use Rattle.jsoundness_laws.specs.typed.ProgressLaws.{IsAt}
 use Rattle.jsoundness_laws.specs.typed.TypedValues.{AllServe}
 use Rattle.jsoundness_laws.proofs.TypedProofs.CallTargets.{calls_come}
 use Rattle.jsoundness_laws.proofs.TypedProofs.OperandExchange.{exchange_leaves}
 use Rattle.jsoundness_laws.proofs.TypedProofs.Orders.{in_order}
-use Rattle.jsoundness_laws.proofs.TypedProofs.TakenOperands.{AreServed, IsServed, took}
+use Rattle.jsoundness_laws.proofs.TypedProofs.TakenOperands.{AreServed, IsServed, below_drop, took}
 use Rattle.jsoundness_laws.proofs.TypedProofs.WantedOperands.{has_want}
+
+-- ---- how many are wanted
+
+with_one : (ts : List VType) (want : Want) → length (map Fits ts ++ want ∷ []) ≡ suc (length ts)
+with_one [] want = refl
+with_one (t ∷ ts) want = ap (λ n. suc n) (with_one ts want)
+
+with_none : (ts : List VType) → length (map Fits ts ++ []) ≡ length ts
+with_none [] = refl
+with_none (t ∷ ts) = ap (λ n. suc n) (with_none ts)
+
+-- as many are wanted as a call takes
+count_is : (this : Name) (by : InvokeKind) (c : CallMeaning) → begins by ≡ false → length (arguments c ++ receiver this by c.owner) ≡ operand_count by c
+count_is this how.Virtual c plain = with_one c.params (Fits (types.Object c.owner))
+count_is this how.Special c plain = with_one c.params (Fits (types.Object this))
+count_is this how.Static c plain = with_none c.params
+count_is this how.Interface c plain = with_one c.params (Fits (types.Object c.owner))
+count_is this how.Init c plain = absurd (cc)
+
+-- ---- operands that serve
 
 module _ {K : Type 0} (p : Program) (good : StandsInOrder p) (s : Store K) (here : Here) (news : News) where
   pub fit_served : (b : VType) → IsValueType b → IsServed (world p) s here news (tree p) (Fits b)
@@ -64,7 +84,7 @@ module _ {K E : Type 0} (r : Rules K E) (at : Site) (own : Member → Bool) (s :
 
   call_does : doing r at own s entries inherited (Used (meanings.Call by c)) f
       ≡ by_taken r at own s entries inherited f (taken at.world s (wants (at.world.named at.class)) f.operands) (call r at own s entries inherited by c)
-      → exchanged (tree p) here.max_stack (of_call here.class by c) shape ≡ Some behind → CanCall r at own s entries inherited p here news by c behind f
+      → exchanged (tree p) here.max_stack (of_call here.class by c) shape ≡ Some behind → CanCall r at own s entries inherited p here news by c shape behind f
   call_does unfolded h =
       let x = exchange_leaves (tree p) here.max_stack (of_call here.class by c) shape behind h in
       let have = took (world p) s here news (tree p) (wants here.class) (all_served p good s here news c.params (receiver here.class by c.owner) linked.values (object_served p good s here news here.class c.owner by))
@@ -73,9 +93,12 @@ module _ {K E : Type 0} (r : Rules K E) (at : Site) (own : Member → Bool) (s :
       let comes = calls_come K p at s by c have.values good coded place.program plain linked serve in
       let is : taken at.world s (wants (at.world.named at.class)) f.operands ≡ Some (record { values = have.values; below = have.under }) =
       ap (λ w. taken w s (wants (at.world.named at.class)) f.operands) place.program ∙ ap (λ this. taken (world p) s (wants this) f.operands) place.class ∙ have.is in
+      let left : drop (operand_count by c) shape.stack ≡ x.rest =
+      ap (λ n. drop n shape.stack) (sym (count_is here.class by c plain)) ∙ below_drop (tree p) (wants here.class) shape.stack x.rest x.is in
       record {
         values = have.values;
         under = have.under;
+        left = subst (λ ts. AllHave (world p) s here news ts have.under) (sym left) have.fit;
         target = comes.0;
         comes = comes.2;
         rest = x.rest;

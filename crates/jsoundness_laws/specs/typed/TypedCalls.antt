@@ -1,5 +1,5 @@
 -- Calls of users' methods in typed states: what linking says of a call, which arguments a method may be given, and what a call is to do.
-use Rattle.std.specs.Prelude.{◌≡◌, ◌⊎◌, ℕ, suc, Bool, true, false, List, [], ◌∷◌, ◌++◌, reverse, Option, Some, option_map, slice_get}
+use Rattle.std.specs.Prelude.{◌≡◌, ◌⊎◌, ℕ, suc, Bool, true, false, List, [], ◌∷◌, ◌++◌, length, drop, reverse, Option, Some, option_map, slice_get}
 use Rattle.std.specs.List.{AllByRecursion}
 use Rattle.std.specs.Option.{IsSome, option_to_list}
 use Rattle.std.specs.Str.{bytes_eq}
@@ -78,6 +78,11 @@ abbrev pub is_static_call : InvokeKind → Bool
 is_static_call how.Static = true
 is_static_call by = false
 
+-- how many operands a call takes: its arguments, and the object on which a method is called that isn't static (JVMS 6.5)
+abbrev pub operand_count : InvokeKind → CallMeaning → ℕ
+operand_count how.Static c = length c.params
+operand_count by c = suc (length c.params)
+
 -- The member has the types that the call says, and is static where the call is. A user's method is there, and with code it stands at or above the
 -- class by which it is named; so does one of the library.
 pub record IsCall (p : Program) (by : InvokeKind) (c : CallMeaning) : Type 0 where
@@ -143,12 +148,13 @@ abbrev pub FramesBegin : Type 0 → Type 0 → Type 0
 FramesBegin K E = (w : World) (s : Store K) (here : Here) (news : News) (m : Method) (id : MethodId) (entry : E) (arguments : List (Value K))
     → AllByRecursion IsParameter m.params → AllHave w s here news (reverse m.params) arguments → Suits w s here news (first_frame m) (frame_of id entry arguments m.body)
 
--- A call is done: its operands are taken, and it comes to a method or raises an exception. What is left suits the frame behind, but for what
--- is returned.
+-- A call is done: its operands are taken, and it comes to a method or raises an exception. What is left suits the frame before it, less the
+-- call's operands, and the frame behind it, but for what is returned.
 pub record CanCall {K E : Type 0} (r : Rules K E) (at : Site) (own : Member → Bool) (s : Store K) (entries : List E) (inherited : Option K) (p : Program)
-    (here : Here) (news : News) (by : InvokeKind) (c : CallMeaning) (behind : Frame) (f : FrameOf K E) : Type 0 where
+    (here : Here) (news : News) (by : InvokeKind) (c : CallMeaning) (shape behind : Frame) (f : FrameOf K E) : Type 0 where
   pub values : List (Value K)
   pub under : List (Value K)
+  pub left : AllHave (world p) s here news (drop (operand_count by c) shape.stack) under
   pub target : Target
   pub comes : IsTarget p s c.ret values target
   pub rest : List VType
@@ -163,7 +169,7 @@ abbrev pub CallsDo : Type 0 → Type 0 → Type 0
 CallsDo K E = (r : Rules K E) (at : Site) (own : Member → Bool) (s : Store K) (entries : List E) (inherited : Option K)
     (p : Program) (here : Here) (news : News) (by : InvokeKind) (c : CallMeaning) (shape behind : Frame) (f : FrameOf K E)
     → StandsInOrder p → AllHaveCode p → IsAt p at own here → begins by ≡ false → IsCall p by c → Suits (world p) s here news shape f
-    → rule p here (Used (meanings.Call by c)) shape ≡ Some behind → CanCall r at own s entries inherited p here news by c behind f
+    → rule p here (Used (meanings.Call by c)) shape ≡ Some behind → CanCall r at own s entries inherited p here news by c shape behind f
 
 -- ---- calls of an `<init>`
 
@@ -204,12 +210,13 @@ IsInitTarget p s c values (Runs call) = IsBegunBy p s c.owner call c.ret values
 abbrev pub IsUsable : {K : Type 0} → Store K → ℕ → Type 0
 IsUsable {K} t n = (x : Object K) × (object_at t n ≡ Some x) × (is_whole x ≡ true)
 
--- A call of an `<init>` is done. What is left suits the frame behind, but for what is returned, in each store behind in which the object that it
--- was called on may be used; a user's may be already.
+-- A call of an `<init>` is done. What is left suits the frame before it, less the call's operands. It suits the frame behind, but for what is
+-- returned, in each store behind in which the object that it was called on may be used; a user's may be already.
 pub record CanInit {K E : Type 0} (r : Rules K E) (at : Site) (own : Member → Bool) (s : Store K) (entries : List E) (inherited : Option K) (p : Program)
-    (here : Here) (news : News) (c : CallMeaning) (behind : Frame) (f : FrameOf K E) : Type 0 where
+    (here : Here) (news : News) (c : CallMeaning) (shape behind : Frame) (f : FrameOf K E) : Type 0 where
   pub values : List (Value K)
   pub under : List (Value K)
+  pub left : AllHave (world p) s here news (drop (operand_count how.Init c) shape.stack) under
   pub target : Target
   pub comes : IsInitTarget p s c values target
   pub class : Name
@@ -233,4 +240,4 @@ abbrev pub InitsDo : Type 0 → Type 0 → Type 0
 InitsDo K E = (r : Rules K E) (at : Site) (own : Member → Bool) (s : Store K) (entries : List E) (inherited : Option K)
     (p : Program) (here : Here) (news : News) (c : CallMeaning) (shape behind : Frame) (f : FrameOf K E)
     → StandsInOrder p → AllHaveCode p → IsAt p at own here → IsAboveHere p here → IsInit p c → Suits (world p) s here news shape f
-    → rule p here (Used (meanings.Call how.Init c)) shape ≡ Some behind → CanInit r at own s entries inherited p here news c behind f
+    → rule p here (Used (meanings.Call how.Init c)) shape ≡ Some behind → CanInit r at own s entries inherited p here news c shape behind f

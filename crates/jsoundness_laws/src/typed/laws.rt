@@ -31,9 +31,9 @@ pub fn leading_law<K, E>()
 {}
 
 /// The laws of calls. In a frame that suits, where the rule gives a frame behind a call, the call is done: it comes to a user's method or to one
-/// of the library that may be given its values, or to an exception, and what is left suits the frame behind, but for what is returned, and
-/// behind an `<init>` where its object may be used. And the frame of a method begins as typing says, where it is given what it may be given.
-/// It has no body to run; its contract is the laws.
+/// of the library that may be given its values, or to an exception. What is left suits the frame before the call less the call's operands. It
+/// suits the frame behind, but for what is returned; behind an `<init>` where its object may be used. And the frame of a method begins as
+/// typing says, where it is given what it may be given. It has no body to run; its contract is the laws.
 pub fn calling_laws<K, E>()
     ensures comes { CallsComeTo K }
     ensures done { CallsDo K E }
@@ -41,9 +41,10 @@ pub fn calling_laws<K, E>()
     ensures begins { FramesBegin K E }
 {}
 
-/// The laws of the frames of a thread, of which the newest stands at an instruction and each older one awaits what it called. They are so in
-/// each store behind; with what the method that it called returns, a frame goes on; and an exception that is thrown is handled by a frame
-/// that goes on with it, or by none. It has no body to run; its contract is the laws.
+/// The laws of the frames of a thread. The newest stands at an instruction. Each older one stands at a call: it suits the frame there less the
+/// call's operands, and the rule's frame behind less what is returned. They are so in each store behind; with what the method that it called
+/// returns, a frame goes on; and an exception that is thrown is handled by a frame that goes on with it, or by none. It has no body to run;
+/// its contract is the laws.
 pub fn stack_laws<K, E>()
     ensures later { StackedLater K E }
     ensures resume { FramesResume K E }
