@@ -9,3 +9,4 @@ pub mod JobSizes
 pub mod StoredFiles
 pub mod CommandAnswers
 pub mod RunProgress
+pub mod PassedRuns

@@ -3,3 +3,4 @@ pub mod Answers
 pub mod Headline
 pub mod GeneratedRuns
 pub mod JobProgress
+pub mod PassedRuns

@@ -1,5 +1,5 @@
 -- What a call told of the plain run of a moved program, said of the inspecting run of the program as it was written.
-use Rattle.std.proofs.Common.{◌≡◌, ◌∙◌, ℕ, Bool, List, Option, Ok, Err, ap, subst}
+use Rattle.std.proofs.Common.{◌≡◌, ◌∙◌, ℕ, Bool, List, Option, Some, Ok, Err, ap, subst, sym}
 use Rattle.std.specs.Prelude.{IfOk, OnErr, OnOk, Result, unwrap_or}
 use Rattle.jground.specs.jbase.FaultCauses.{IsCut, appended}
 use Rattle.jperm.specs.declared.permission.Permission.{Permission}
@@ -9,6 +9,8 @@ use Rattle.joutput.specs.declared.jtrace.event.End.TheVariants as ends
 use Rattle.joutput.specs.declared.jtrace.fault.RunFault.{RunFault}
 use Rattle.joutput.specs.jtrace.TraceLines.{text}
 use Rattle.jresolution.specs.jprogram.ProgramClasses.{Program}
+use Rattle.jresolution.specs.jprogram.MemberResolution.{IsMain, main_of}
+use Rattle.jmoved_laws.specs.names.OpeningLaws.{MainsStay}
 use Rattle.jsemantics.specs.declared.jmachine.plan.Plan.{Plan}
 use Rattle.jsemantics.specs.jmachine.RunTraces.{Run, ending, run_text}
 use Rattle.jpass_laws.specs.PassSimulation.{MovedPasses, Passes, inspected, passed}
@@ -35,17 +37,22 @@ tells r (Err fault) old new written ended cut = cut
 
 -- ---- of a moved program's run
 
-module _ (law : MovedPasses) (has : ℕ → Permission → Bool) (p q : Program) (plan : Plan) (is : IsMoved p q plan)
-    (result : Result End RunFault) (old new : Option (List ℕ)) where
-  passes : Passes has p q plan
-  passes = subst (λ (x : Program). Passes has p x plan) is.moved (law has p plan is.main.0 is.linked is.typed is.small is.main.1)
+-- it begins with the `main` of the program as it was written
+pub main_named : MainsStay → (p q : Program) (plan : Plan) → IsMoved p q → (main : IsMain q plan.main) → main_of p main.0 ≡ Some plan.main
+main_named mains p q plan is main =
+    sym (mains p is.linked is.typed is.small main.0) ∙ subst (λ (x : Program). main_of x main.0 ≡ Some plan.main) (sym is.moved) main.1
 
-  pub simulated : Tells (passed has q plan plan.steps) result old new → AfterSome (inspected has p plan) plan.steps (λ r. Tells r result old new)
-  simulated told =
-      let w = passes.simulated plan.steps in
-      (w.k, w.within, w.near, tells_alike (passed has q plan plan.steps) (inspected has p plan w.k) result old new w.events w.end told)
+module _ (law : MovedPasses) (mains : MainsStay) (has : ℕ → Permission → Bool) (p q : Program) (plan : Plan) (is : IsMoved p q) (main : IsMain q plan.main) where
+  pub passes : Passes has p q plan
+  passes = subst (λ (x : Program). Passes has p x plan) is.moved (law has p plan main.0 is.linked is.typed is.small (main_named mains p q plan is main))
 
-  pub complete : Tells (passed has q plan plan.steps) result old new → OnceEnded (inspected has p plan) plan.steps (λ r. Tells r result old new)
-  complete told n end over enough =
-      let w = passes.complete n plan.steps end over enough in
-      tells_alike (passed has q plan plan.steps) (inspected has p plan n) result old new w.events w.end told
+  module _ (result : Result End RunFault) (old new : Option (List ℕ)) where
+    pub simulated : Tells (passed has q plan plan.steps) result old new → AfterSome (inspected has p plan) plan.steps (λ r. Tells r result old new)
+    simulated told =
+        let w = passes.simulated plan.steps in
+        (w.k, w.within, w.near, tells_alike (passed has q plan plan.steps) (inspected has p plan w.k) result old new w.events w.end told)
+
+    pub complete : Tells (passed has q plan plan.steps) result old new → OnceEnded (inspected has p plan) plan.steps (λ r. Tells r result old new)
+    complete told n end over enough =
+        let w = passes.complete n plan.steps end over enough in
+        tells_alike (passed has q plan plan.steps) (inspected has p plan n) result old new w.events w.end told

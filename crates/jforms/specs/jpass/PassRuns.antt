@@ -3,12 +3,12 @@ use Rattle.std.specs.Prelude.{◌≡◌, ◌≤◌, ◌+◌, ◌*◌, ℕ, List,
 use Rattle.jground.specs.jbase.FaultCauses.{IsCut, appended}
 use Rattle.joutput.specs.declared.jtrace.event.End.{End}
 use Rattle.joutput.specs.declared.jtrace.fault.RunFault.{RunFault}
+use Rattle.jlib.specs.declared.side.Side.TheVariants.{Passing}
+use Rattle.jlinking.specs.jlink.LinkedPrograms.{Links}
 use Rattle.jresolution.specs.jprogram.ProgramClasses.{Program}
-use Rattle.jresolution.specs.jprogram.MemberResolution.{main_of}
 use Rattle.jrewriting.specs.jrewrite.LinkageLaws.{IsLinked}
 use Rattle.jtyping.specs.jwelltyped.VerifierTests.{WellTyped}
 use Rattle.jrewriting.specs.jrewrite.RewrittenPrograms.{limits, moved}
-use Rattle.jsemantics.specs.declared.jmachine.plan.Plan.{Plan}
 use Rattle.jsemantics.specs.jmachine.RunTraces.{Run, ending, run_text}
 
 -- The call wrote all lines of a run and answered how it ended; at a fault it wrote a front of them.
@@ -16,13 +16,18 @@ abbrev pub Tells : {S : Type 0} → Run S → Result End RunFault → Option (Li
 Tells r (Ok end) old new = (end ≡ ending r) × (new ≡ appended old (run_text r))
 Tells r (Err fault) old new = IsCut old new (run_text r)
 
--- A program links, is well typed and breaks no limit, the other one is what it is moved to, and the plan begins with the `main` of a class of it.
-pub record IsMoved (p q : Program) (plan : Plan) : Type 0 where
+-- A program links, is well typed and breaks no limit, and the other one is what it is moved to.
+pub record IsMoved (p q : Program) : Type 0 where
   pub linked : IsLinked p
   pub typed : WellTyped p
   pub small : limits p ≡ None
   pub moved : moved p ≡ q
-  pub main : (name : List ℕ) × (main_of p name ≡ Some plan.main)
+
+-- A program passes the checker on the passing side: it links there, and is well typed.
+pub record PassesChecker (q : Program) : Type 0 where
+  pub side : q.side ≡ Passing
+  pub links : Links q
+  pub typed : WellTyped q
 
 -- ---- which steps of a run are spoken of, where m steps of a slower one are made
 

@@ -125,6 +125,15 @@ module _ (side : Side) (name : List ℕ) (parts : List CodePart) where
       let c = bound (checked a.0) (λ y. ok_pair (pair y b.0)) found b.2 in
       last_stage a.0 c.0 b.0 found a.1 b.1 c.1 c.2
 
+-- a job that was read has few class files, and its code sources are numbered in order
+pub fine_at : JobIsSmall → (files : List File) (path : List ℕ) (g : JobSetup) → ground_at files path ≡ ok_ground g → Fine g
+unfolding ground_at ground_in
+fine_at few files path g e =
+    let a = bound (bytes_at files path) (λ text. ground_in files text) g e in
+    let b = bound (job_read (job a.0)) (λ it. grants_at files it >>= λ grants. ok_ground (ground_of it grants)) g a.2 in
+    let c = bound (grants_at files b.0) (λ grants. ok_ground (ground_of b.0 grants)) g b.2 in
+    subst Fine (ground_is (ground_of b.0 c.0) g c.2) (is_fine few a.0 b.0 c.0 (job_is (job a.0) b.0 b.1))
+
 -- ---- the laws of typed states
 
 has_step : {K E : Type 0} (r : Rules K E) (p : Program) (plan : Plan) (x : Run (State K E)) → IsTypedRun r p plan x → step r p plan x.state ≡ NoStep → ⊥
@@ -181,14 +190,6 @@ module _ (frames : LinkedRunsTyped Stack Carried) (frames_sided : (h : ℕ → P
   -- ---- what files ask for
 
   module _ (few : JobIsSmall) (spells : SpellsWhole) (files : List File) (bytes : HoldBytes files) where
-    fine_at : (path : List ℕ) (g : JobSetup) → ground_at files path ≡ ok_ground g → Fine g
-    unfolding ground_at ground_in
-    fine_at path g e =
-        let a = bound (bytes_at files path) (λ text. ground_in files text) g e in
-        let b = bound (job_read (job a.0)) (λ it. grants_at files it >>= λ grants. ok_ground (ground_of it grants)) g a.2 in
-        let c = bound (grants_at files b.0) (λ grants. ok_ground (ground_of b.0 grants)) g b.2 in
-        subst Fine (ground_is (ground_of b.0 c.0) g c.2) (is_fine few a.0 b.0 c.0 (job_is (job a.0) b.0 b.1))
-
     runs : (g : JobSetup) (parts : List CodePart) (side : Side) (found : Program × MethodId) → Fine g → each (part_at files) g.classes ≡ Ok parts
         → runnable side g.main parts ≡ ok_pair found → Runs side found.0 found.1
     unfolding WellTyped
@@ -214,7 +215,7 @@ module _ (frames : LinkedRunsTyped Stack Carried) (frames_sided : (h : ℕ → P
         let b = bound (each (part_at files) g.classes) (λ parts. run_of_parts form g parts) it a.2 in
         let c = bound (runnable (side_of form) g.main b.0) (λ found. run_in form found.0 g.domains (plan_of g.setting found.1)) it b.2 in
         let found = c.0 in
-        in_form form found.0 g.domains (plan_of g.setting found.1) it (runs g b.0 (side_of form) found (fine_at path g a.1) b.1 c.1) c.2
+        in_form form found.0 g.domains (plan_of g.setting found.1) it (runs g b.0 (side_of form) found (fine_at few files path g a.1) b.1 c.1) c.2
 
   module _ (few : JobIsSmall) (spells : SpellsWhole) where
     pub all_go_on : AllGoOn

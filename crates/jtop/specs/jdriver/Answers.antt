@@ -22,7 +22,7 @@ use Rattle.jshow.specs.Statuses.{status_of}
 use Rattle.jtasks.specs.declared.jtask.task.Task.{Task}
 use Rattle.jtasks.specs.declared.jtask.task.Task.TheVariants as tasks
 use Rattle.jtasks.specs.jstages.Stages.{Misses}
-use Rattle.jtasks.specs.jtask.Tasks.{stores, task}
+use Rattle.jtasks.specs.jtask.Tasks.{reads, stores, task}
 use Rattle.jstore.specs.Folders.{files_below}
 use Rattle.jstore.specs.FileWrites.{StoresFront, with_files}
 
@@ -71,6 +71,10 @@ answered words = answer_to (command (words_of words))
 
 -- ---- what a call answers
 
+-- Files over which is answered: where any are read, those that the shelf tells that it holds; else any, since none matters.
+abbrev pub Over : Bool → Option (List File) → List File → Type 0
+Over reading held files = reading ≡ true → held ≡ Some files
+
 -- What the call stored are these files. After a fault of reading nothing was stored; after a fault of storing, and where memory ran out, a
 -- front of them.
 abbrev pub Stores : List File → Status → Option (List File) → Option (List File) → Type 0
@@ -93,14 +97,18 @@ abbrev pub Calm : ℕ → ℕ → ℕ → ℕ → ℕ → ℕ → Type 0
 Calm read_before read_now store_before store_now put_before put_now =
     (Rose read_before read_now → ⊥) × (Rose store_before store_now → ⊥) × (Rose put_before put_now → ⊥)
 
--- The status is the answer's own over the files that are held, or memory ran out.
-abbrev pub Complete : (List File → Answer) → Option (List File) → Status → Type 0
-Complete answer_over held s = (files : List File) (own : Status) → held ≡ Some files → (answer_over files).status ≡ Some own → (s ≡ own) ⊎ (s ≡ statuses.OutOfMemory)
+-- The status is the answer's own over these files, or memory ran out.
+abbrev pub Complete : (List File → Answer) → (List File → Type 0) → Status → Type 0
+Complete answer_over IsHeld s = (files : List File) (own : Status) → IsHeld files → (answer_over files).status ≡ Some own → (s ≡ own) ⊎ (s ≡ statuses.OutOfMemory)
 
 -- The words are a command, and a file that is to be read for it is missing or too long.
 abbrev pub MissesAny : Option (List File) → Option Command → Type 0
 MissesAny held None = ⊥
 MissesAny held (Some c) = Misses held (task c)
+
+-- The words are a command that reads files.
+abbrev pub any_reads : Option Command → Bool
+any_reads = elim [ None ↦ false | Some c ↦ reads c ]
 
 -- The words are a command that stores files.
 abbrev pub any_stores : Option Command → Bool

@@ -1,10 +1,12 @@
 ghost use Rattle.jtop.specs.jdriver.RewrittenRuns.{RunsAlike};
 ghost use Rattle.jtop.specs.jdriver.JobProgress.{AllGoOn, BothGoOn};
+ghost use Rattle.jtop.specs.jdriver.PassedRuns.{AlwaysPassedSo, MovedIsChecked, NeitherIsStuck, RunsAgree};
 
 use jclass::spelling_laws;
 use jjob_laws::job_laws;
 use jmoved_laws::names::begin_law;
 use jmoved_laws::types::types_law;
+use jpass_laws::moved_laws;
 use jrewriting::jrewrite::{link_law, part_laws};
 use jsoundness_laws::library::rules_laws;
 use jsoundness_laws::program::runs_law;
@@ -63,4 +65,20 @@ pub fn unstuck_law()
     rules_laws();
     runs_law::<ByFrames>();
     runs_law::<ByContexts>();
+}
+
+/// The law of runs in the pass form, over all files that hold bytes. The run of the moved program has the events and the end of the inspecting
+/// run, within stated numbers of steps (`agrees`); the moved program passes the checker (`checked`); and neither run is ever stuck (`unstuck`).
+/// It has no body to run but the laws that it stands on; its contract is the law.
+pub fn passed_law()
+    ensures agrees { AlwaysPassedSo RunsAgree }
+    ensures checked { AlwaysPassedSo MovedIsChecked }
+    ensures unstuck { AlwaysPassedSo NeitherIsStuck }
+{
+    job_laws();
+    spelling_laws();
+    link_law();
+    types_law();
+    moved_laws();
+    unstuck_law();
 }

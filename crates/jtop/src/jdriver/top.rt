@@ -8,9 +8,13 @@ ghost use Rattle.jshow.specs.declared.status.Status.TheVariants.{ReadFault, Stor
 ghost use Rattle.jshow.specs.CommandAnswers.{Answers};
 ghost use Rattle.jtasks.specs.jstages.Stages.{Misses};
 ghost use Rattle.jtasks.specs.jtask.Tasks.{reads, stores, task};
-ghost use Rattle.jtop.specs.jdriver.Answers.{Calm, Complete, IsSized, MissesAny, NoFileFault, Stores, UsageExactly, answer, answered, any_makes, any_stores, makes};
+ghost use Rattle.jtop.specs.jdriver.Answers.{Calm, Complete, IsSized, MissesAny, NoFileFault, Over, Stores, UsageExactly};
+ghost use Rattle.jtop.specs.jdriver.Answers.{answer, answered, any_makes, any_reads, any_stores, makes};
 ghost use Rattle.jtop.specs.jdriver.Headline.{AnswersAll, AnswersSome};
+ghost use Rattle.jtop.specs.jdriver.JobProgress.{HoldBytes};
+ghost use Rattle.jtop.specs.jdriver.PassedRuns.{IsPassedSo, MovedIsChecked, NeitherIsStuck, RunsAgree};
 
+use crate::jdriver::laws::passed_law;
 use crate::jdriver::making::show_made;
 use crate::jdriver::showing::{show, show_usage};
 use jjob::{Command, WordsError, read_words};
@@ -40,7 +44,7 @@ fn do_task<S: Shelf, K: Sink>(
     ensures write { result ≡ WriteFault → Rose (K.faults out.old) (K.faults out.new) }
     ensures store { result ≡ StoreFault → Rose (S.write_faults shelf.old) (S.write_faults shelf.new) }
     ensures complete { Calm (S.read_faults shelf.old) (S.read_faults shelf.new) (S.write_faults shelf.old) (S.write_faults shelf.new) (K.faults out.old) (K.faults out.new)
-        → Complete (answer command.now) (S.held shelf.old) result }
+        → Complete (answer command.now) (λ files. S.held shelf.old ≡ Some files) result }
     ensures reads_later { S.read_faults shelf.old ≤ S.read_faults shelf.new }
     ensures stores_later { S.write_faults shelf.old ≤ S.write_faults shelf.new }
     ensures puts_later { K.faults out.old ≤ K.faults out.new }
@@ -85,15 +89,23 @@ pub fn dispatch<S: Shelf, K: Sink>(
     out: &mut K,
 ) -> Status
     requires { IsSized command.now }
-    // The bytes that are written, and the status, are the answer to the command over the bytes of the files.
-    ensures answer { (files : List File) → S.held shelf.old ≡ Some files → Answers (answer command.now files) result (K.out out.old) (K.out out.new) }
+    // The bytes that are written, and the status, are the answer to the command over the bytes of the files, where it reads any.
+    ensures answer { (files : List File) → Over (reads command.now) (S.held shelf.old) files
+        → Answers (answer command.now files) result (K.out out.old) (K.out out.new) }
     // Of a run in the pass form they answer what the inspecting run of the program as it was written has told after some of its steps, and
     ensures passes { (files : List File) → S.held shelf.old ≡ Some files → AnswersSome command.now files result (K.out out.old) (K.out out.new) }
     // all that it tells, where it has ended and the plan has enough steps.
     ensures whole { (files : List File) → S.held shelf.old ≡ Some files → AnswersAll command.now files result (K.out out.old) (K.out out.new) }
+    // Whatever is answered: the run of the moved program has the events and the end of that inspecting run;
+    ensures agrees { (files : List File) → HoldBytes files → IsPassedSo RunsAgree command.now files }
+    // the moved program passes the checker;
+    ensures checked { (files : List File) → HoldBytes files → IsPassedSo MovedIsChecked command.now files }
+    // and neither run is ever stuck.
+    ensures unstuck { (files : List File) → HoldBytes files → IsPassedSo NeitherIsStuck command.now files }
     ensures usage { result ≡ Usage → ⊥ }
     // The files that are stored are those of the answer.
-    ensures files { (files : List File) → S.held shelf.old ≡ Some files → Stores (answer command.now files).files result (S.held shelf.old) (S.held shelf.new) }
+    ensures files { (files : List File) → Over (reads command.now) (S.held shelf.old) files
+        → Stores (answer command.now files).files result (S.held shelf.old) (S.held shelf.new) }
     // A command that stores no files leaves those that are there.
     ensures held { stores command.now ≡ false → S.held shelf.new ≡ S.held shelf.old }
     ensures stored { stores command.now ≡ false → S.write_faults shelf.new ≡ S.write_faults shelf.old }
@@ -108,11 +120,12 @@ pub fn dispatch<S: Shelf, K: Sink>(
     ensures store { result ≡ StoreFault → Rose (S.write_faults shelf.old) (S.write_faults shelf.new) }
     // Where no fault is counted and each file that is to be read is there, the status is the answer's, or memory ran out.
     ensures complete { Calm (S.read_faults shelf.old) (S.read_faults shelf.new) (S.write_faults shelf.old) (S.write_faults shelf.new) (K.faults out.old) (K.faults out.new)
-        → Complete (answer command.now) (S.held shelf.old) result }
+        → Complete (answer command.now) (Over (reads command.now) (S.held shelf.old)) result }
     ensures reads_later { S.read_faults shelf.old ≤ S.read_faults shelf.new }
     ensures stores_later { S.write_faults shelf.old ≤ S.write_faults shelf.new }
     ensures puts_later { K.faults out.old ≤ K.faults out.new }
 {
+    passed_law();
     match seed_and_size(command) {
         Some((seed, size)) => show_made(alloc, seed, size, out),
         None => do_task(alloc, command, shelf, out),
@@ -128,8 +141,9 @@ pub fn javasec<S: Shelf, K: Sink>(
     shelf: &mut S,
     out: &mut K,
 ) -> Status
-    // The bytes that are written, and the status, are the answer to the words over the bytes of the files.
-    ensures answer { (files : List File) → S.held shelf.old ≡ Some files → Answers (answered words.now files) result (K.out out.old) (K.out out.new) }
+    // The bytes that are written, and the status, are the answer to the words over the bytes of the files, where they read any.
+    ensures answer { (files : List File) → Over (any_reads (command_of (words_of words.now))) (S.held shelf.old) files
+        → Answers (answered words.now files) result (K.out out.old) (K.out out.new) }
     // Where the words run a job in the pass form, they answer what the inspecting run of the program as it was written has told after some of
     // its steps, and
     ensures passes { (files : List File) (c : Command) → S.held shelf.old ≡ Some files → command_of (words_of words.now) ≡ Some c
@@ -137,10 +151,20 @@ pub fn javasec<S: Shelf, K: Sink>(
     // all that it tells, where it has ended and the plan has enough steps.
     ensures whole { (files : List File) (c : Command) → S.held shelf.old ≡ Some files → command_of (words_of words.now) ≡ Some c
         → AnswersAll c files result (K.out out.old) (K.out out.new) }
+    // Whatever is answered: the run of the moved program has the events and the end of that inspecting run;
+    ensures agrees { (files : List File) (c : Command) → HoldBytes files → command_of (words_of words.now) ≡ Some c
+        → IsPassedSo RunsAgree c files }
+    // the moved program passes the checker;
+    ensures checked { (files : List File) (c : Command) → HoldBytes files → command_of (words_of words.now) ≡ Some c
+        → IsPassedSo MovedIsChecked c files }
+    // and neither run is ever stuck.
+    ensures unstuck { (files : List File) (c : Command) → HoldBytes files → command_of (words_of words.now) ≡ Some c
+        → IsPassedSo NeitherIsStuck c files }
     // Usage comes exactly where the words are no command.
     ensures usage { UsageExactly (command_of (words_of words.now)) result }
     // The files that are stored are those of the answer.
-    ensures files { (files : List File) → S.held shelf.old ≡ Some files → Stores (answered words.now files).files result (S.held shelf.old) (S.held shelf.new) }
+    ensures files { (files : List File) → Over (any_reads (command_of (words_of words.now))) (S.held shelf.old) files
+        → Stores (answered words.now files).files result (S.held shelf.old) (S.held shelf.new) }
     // A command that stores no files leaves those that are there.
     ensures held { any_stores (command_of (words_of words.now)) ≡ false → S.held shelf.new ≡ S.held shelf.old }
     ensures stored { any_stores (command_of (words_of words.now)) ≡ false → S.write_faults shelf.new ≡ S.write_faults shelf.old }
@@ -155,11 +179,12 @@ pub fn javasec<S: Shelf, K: Sink>(
     ensures store { result ≡ StoreFault → Rose (S.write_faults shelf.old) (S.write_faults shelf.new) }
     // Where no fault is counted and each file that is to be read is there, the status is the answer's, or memory ran out.
     ensures complete { Calm (S.read_faults shelf.old) (S.read_faults shelf.new) (S.write_faults shelf.old) (S.write_faults shelf.new) (K.faults out.old) (K.faults out.new)
-        → Complete (answered words.now) (S.held shelf.old) result }
+        → Complete (answered words.now) (Over (any_reads (command_of (words_of words.now))) (S.held shelf.old)) result }
     ensures reads_later { S.read_faults shelf.old ≤ S.read_faults shelf.new }
     ensures stores_later { S.write_faults shelf.old ≤ S.write_faults shelf.new }
     ensures puts_later { K.faults out.old ≤ K.faults out.new }
 {
+    passed_law();
     let command = match read_words(alloc, words) {
         Ok(command) => command,
         Err(WordsError::Usage) => return show_usage(out),

@@ -51,3 +51,35 @@ returns-in-Some-clause-made g c = λ makes. no_file_fault c.show_made.result c.s
 
 pub returns-in-None-clause-made : goal.returns-in-None-clause-made
 returns-in-None-clause-made g c = λ makes. not_both c.args.command.now c.in-None.ensures.none makes
+
+-- where it reads files
+pub returns-in-None-clause-answer : goal.returns-in-None-clause-answer
+returns-in-None-clause-answer g c = λ files over. c.do_task.ensures.answer files (over c.in-None.ensures.none)
+
+pub returns-in-None-clause-files : goal.returns-in-None-clause-files
+returns-in-None-clause-files g c = λ files over. c.do_task.ensures.files files (over c.in-None.ensures.none)
+
+pub returns-in-None-clause-complete : goal.returns-in-None-clause-complete
+returns-in-None-clause-complete g c = λ calm files status over is. c.do_task.ensures.complete calm files status (over c.in-None.ensures.none) is
+
+-- ---- what is so of each run in the pass form, whatever is answered
+
+pub returns-in-Some-clause-agrees : goal.returns-in-Some-clause-agrees
+returns-in-Some-clause-agrees g c = λ files bytes. c.passed_law.ensures.agrees c.args.command.now files bytes
+
+pub returns-in-Some-clause-checked : goal.returns-in-Some-clause-checked
+returns-in-Some-clause-checked g c = λ files bytes. c.passed_law.ensures.checked c.args.command.now files bytes
+
+pub returns-in-Some-clause-unstuck : goal.returns-in-Some-clause-unstuck
+returns-in-Some-clause-unstuck g c = λ files bytes. c.passed_law.ensures.unstuck c.args.command.now files bytes
+
+pub returns-in-None-clause-agrees : goal.returns-in-None-clause-agrees
+returns-in-None-clause-agrees g c = λ files bytes. c.passed_law.ensures.agrees c.args.command.now files bytes
+
+pub returns-in-None-clause-checked : goal.returns-in-None-clause-checked
+returns-in-None-clause-checked g c = λ files bytes. c.passed_law.ensures.checked c.args.command.now files bytes
+
+pub returns-in-None-clause-unstuck : goal.returns-in-None-clause-unstuck
+returns-in-None-clause-unstuck g c = λ files bytes. c.passed_law.ensures.unstuck c.args.command.now files bytes
+
+-- ---- what reads no file has a status
