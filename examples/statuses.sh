@@ -20,11 +20,17 @@ check() {
   fi
 }
 
-commands='javasec: the commands are `run JOB`, `check JOB`, `rewrite JOB OUT`, `policy JOB`, `gen SEED SIZE`; the first two take --form=inspect, --form=pass or --form=plain'
+commands='the commands are `run JOB`, `check JOB`, `rewrite JOB OUT`, `policy JOB` and `gen SEED SIZE`, where SIZE is 1 to 1000; the first two take --form=inspect, --form=pass or --form=plain'
+lost='javasec: audit.policy, line 19: `${clock.zone}` is no property of the job, so the entry is left out
+javasec: audit.policy, line 25: a signer is asked for, and class files of a job have none, so the grant gives nothing
+javasec: audit.policy: "file:/opt/app/plugins/*" stands for no code source of the job, so its grant gives nothing
+javasec: audit.policy: com.example.ClockPermission "set" is of no class of permissions that is known here, so the entry grants nothing
+javasec: audit.policy: java.util.PropertyPermission "user.timezone": "rread" are no actions of it, so the entry grants nothing'
 out=/dev/null
-check 0 '' policy audit.job
-check 2 "$commands"
-check 2 "$commands" rewrite job
+check 0 "$lost" policy audit.job
+check 0 '' check app.job
+check 2 "javasec: there is no word, or one that is no UTF-8; $commands"
+check 2 "javasec: a word is missing; $commands" rewrite job
 check 7 'javasec: nowhere could not be read: nothing is there' rewrite nowhere out
 check 9 'javasec: /dev/null/d0/app/Main.class could not be stored: a file stands where a folder is wanted' rewrite plugin.job /dev/null
 check 7 'javasec: nowhere could not be read: nothing is there' policy nowhere

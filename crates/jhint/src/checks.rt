@@ -1,13 +1,13 @@
+use crate::frames::{is_declared, say_reason};
 use crate::opcodes::name_of;
 use crate::references::{index_of, named_at, say_named};
 use crate::said::Said;
-use crate::scene::scene_of;
+use crate::scene::{Scene, scene_of};
 use crate::stacks::say_found;
 use jcheck::TypeFault;
 use jlinking::jlink::LinkedProgram;
 use jparts::jcode::{Op, Placed, effect_of, form_of, opcode_of};
 use jparts::jpool::Pool;
-use jresolution::jprogram::MethodId;
 use jvalues::jnames::{Kind, Kinds};
 use jverify::frame_before;
 
@@ -51,15 +51,17 @@ fn say_wanted(pool: &Pool, op: &Op, said: &mut Said) {
     }
 }
 
-/// Says what an instruction finds, where that is known.
-fn say_before(program: &LinkedProgram, m: MethodId, one: &Placed, said: &mut Said) {
-    if let Ok(Some(frame)) = frame_before(said.alloc, program, m, one.at) {
+/// Says what an instruction finds, where that is known, and what is wrong there.
+fn say_before(program: &LinkedProgram, scene: Scene<'_>, one: &Placed, said: &mut Said) {
+    if let Ok(Some(frame)) = frame_before(said.alloc, program, scene.method, one.at) {
         say_found(program.named(), &one.op, &frame, said);
-        said.words(b"; that");
+        say_reason(scene, one, said);
+    } else if one.at != 0 && !is_declared(scene.code.attributes, i64::from(one.at)) {
+        said.words(b"; no frame is declared there, and none arrives");
     } else {
-        said.words(b"; what is there then");
+        said.words(b"; what is there then, or the frame declared there or behind it, doesn't fit");
     }
-    said.words(b", or the frame declared there or behind it, doesn't fit: compile anew");
+    said.words(b": compile anew");
 }
 
 /// The instruction at a place.
@@ -85,5 +87,5 @@ pub fn say_check(program: &LinkedProgram, fault: TypeFault, said: &mut Said) {
     };
     said.told(name_of(usize::from(opcode_of(&one.op))));
     say_wanted(&scene.class.pool, &one.op, said);
-    say_before(program, scene.method, one, said);
+    say_before(program, scene, one, said);
 }

@@ -3,6 +3,9 @@ use crate::outline::{Outline, Spot, number_at};
 use crate::said::{Said, piece_of};
 use jclass::ClassFault;
 
+/// The opcode and the operand of a newarray of floats, and of doubles (JVMS 6.5).
+const MAKES_FLOATS: [usize; 2] = [0xbc06, 0xbc07];
+
 /// What each fault means, a line for each.
 const MEANINGS: &str = "something isn't wholly there: the file was cut, or a length is wrong\n\
 it doesn't begin as class files do\n\
@@ -17,7 +20,7 @@ a method that has code and shouldn't, or hasn't and should, or has none or more 
 an opcode that there isn't\n\
 an instruction that is left out\n\
 an operand that the instruction can't have\n\
-a branch or a handler that leads to no instruction\n\
+a branch that leads to no instruction\n\
 a frame's type that is reserved\n\
 a frame's tag that no type has\n\
 a float or a double in a frame, which are left out\n\
@@ -93,6 +96,37 @@ fn say_instruction(file: &[u8], at: usize, kind: ClassFault, said: &mut Said) {
     }
 }
 
+/// Says of a handler at a byte what is wrong with the places that it has (JVMS 4.7.3).
+fn say_handler(file: &[u8], at: usize, said: &mut Said) {
+    let start = number_at(file, at, 2) as u64;
+    let end = number_at(file, at.saturating_add(2), 2) as u64;
+    said.number(b"a handler for ", start, b"");
+    said.number(b" up to ", end, b"");
+    if end <= start {
+        return said.words(b", which is empty");
+    }
+    let to = number_at(file, at.saturating_add(4), 2) as u64;
+    said.number(
+        b", which leads to ",
+        to,
+        b": not all of them are places of instructions",
+    );
+}
+
+/// Says what a fault at a byte means.
+fn say_meaning(file: &[u8], at: usize, kind: ClassFault, spot: Spot, said: &mut Said) {
+    match (kind, spot) {
+        (ClassFault::Target, Spot::Method) => return say_handler(file, at, said),
+        (ClassFault::Operand, _) if MAKES_FLOATS.contains(&number_at(file, at, 2)) => {
+            return said.words(
+                b"arrays of float and double aren't read here, newarray: whole numbers of a smaller unit",
+            );
+        }
+        _ => said.told(meaning_of(kind)),
+    }
+    say_instruction(file, at, kind, said);
+}
+
 /// Says of a class file what its fault at a byte means, and where that is.
 pub fn say_class(path: &str, file: &[u8], at: u32, kind: ClassFault, said: &mut Said) {
     said.text(path);
@@ -103,6 +137,5 @@ pub fn say_class(path: &str, file: &[u8], at: u32, kind: ClassFault, said: &mut 
     let outline = Outline::of(file, at as usize);
     say_part(outline, at as usize, said);
     said.words(b": ");
-    said.told(meaning_of(kind));
-    say_instruction(file, at as usize, kind, said);
+    say_meaning(file, at as usize, kind, outline.spot, said);
 }

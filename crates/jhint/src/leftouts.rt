@@ -15,6 +15,7 @@ enum LeftOut {
     Synchronized,
     InterfaceCode,
     Initialiser,
+    Assert,
     ClassConstant,
     ArrayMember,
     InterfaceCall,
@@ -28,6 +29,7 @@ native methods are left out\n\
 synchronized is left out: turns change at start, yield and join alone\n\
 methods with code are left out of interfaces: an abstract class\n\
 a static initialiser is left out: set the fields at the beginning of main\n\
+a static initialiser is left out: `assert` makes one; leave it out\n\
 `X.class` is left out\n\
 members of arrays, as `array.clone()`, are left out: a loop\n\
 static methods of interfaces, and those with code, are left out: a class\n\
@@ -47,11 +49,21 @@ fn has_floats(desc: &[u8]) -> bool {
     false
 }
 
+/// What makes a class's static initialiser: an `assert` has a field, where a compiler made it.
+fn initialiser(class: &ClassParts) -> LeftOut {
+    for field in class.fields.as_slice() {
+        if member_name(class, field) == b"$assertionsDisabled".as_slice() {
+            return LeftOut::Assert;
+        }
+    }
+    LeftOut::Initialiser
+}
+
 /// What of a member's own is left out, of a method by its flags.
 fn declared(class: &ClassParts, member: &MemberInfo) -> LeftOut {
     let desc = member_desc(class, member);
     if member_name(class, member) == b"<clinit>".as_slice() {
-        LeftOut::Initialiser
+        initialiser(class)
     } else if has_floats(desc) {
         LeftOut::Floats
     } else if !desc.starts_with(b"(") {

@@ -7,10 +7,10 @@ cwd takes a path that begins with /, at most once\n\
 code takes a URL whose path ends in /, as file:/app/, at most 4,096 times\n\
 class takes a path, behind a line `code URL`, at most 65,535 times\n\
 main takes the name of a class, once\n\
-schedule takes numbers up to 4,294,967,295 with one space between, at most 1,000,000 in all\n\
-heap takes a number up to 16,777,216, at most once\n\
-depth takes a number from 1 to 10,000, at most once\n\
-steps takes a number up to 1,000,000,000,000, at most once";
+schedule takes numbers up to 4294967295 in digits alone, with one space between, at most 1000000 in all\n\
+heap takes a number up to 16777216 in digits alone, at most once\n\
+depth takes a number from 1 to 10000 in digits alone, at most once\n\
+steps takes a number up to 1000000000000 in digits alone, at most once";
 
 const NO_KEY: &str =
     "a line is a key, one space and a value; the keys are policy, prop, cwd, code, class, main, schedule, heap, depth and steps";
@@ -58,6 +58,9 @@ fn say_of_text(text: &str, at: usize, said: &mut Said) {
     if rule.ends_with("once") && !sought.is_empty() && first < at {
         let number = first.saturating_add(1) as u64;
         return said.number(b"line ", number, b" says it already");
+    }
+    if line.ends_with('\r') {
+        return said.words(b"the line ends in a carriage return");
     }
     said.told(rule);
 }

@@ -1,13 +1,14 @@
 ghost use Rattle.jresolution.specs.jprogram.InterfaceSearch.{IsLayered};
 
 use crate::leftouts::left_out;
-use crate::references::{Named, bad_class, bad_member, say_named};
+use crate::opcodes::name_of;
+use crate::references::{bad_class, bad_in_frames, bad_member, index_of, named_at, say_named};
 use crate::said::Said;
 use crate::scene::{Scene, scene_of};
 use jclass::{ClassParts, MemberInfo};
 use jlib::{Side, class as library_class, member};
 use jlinking::jlink::LinkError;
-use jparts::jpool::Pool;
+use jparts::jcode::{Op, opcode_of};
 use jresolution::jprogram::{
     LinkKind, NamedProgram, class_text, program_laws, super_name, text_at, this_name,
 };
@@ -28,10 +29,11 @@ fn other(side: Side) -> (Side, &'static str) {
     }
 }
 
-/// Says a class that neither the job nor its side's library has.
-fn say_missing(side: Side, name: &[u8], said: &mut Said) {
+/// Says a class that neither the job nor its side's library has, and where it is named.
+fn say_missing(side: Side, name: &[u8], place: &str, said: &mut Said) {
     let (beyond, advice) = other(side);
     said.name(name);
+    said.told(place);
     match library_class(beyond, name) {
         Some(_) => said.told(advice),
         None => said.words(b", which neither the job nor the library has"),
@@ -67,17 +69,17 @@ fn say_above(program: &NamedProgram, class: &ClassParts, said: &mut Said) {
         Some(above)
     };
     if let Some(name) = missing {
-        said.words(b"it extends or lists ");
-        say_missing(program.side(), name, said);
+        said.words(b"it extends or implements ");
+        say_missing(program.side(), name, "", said);
     }
 }
 
 /// Says the first interface that a class lists and that is none, or else the class that it may not extend.
 fn say_barred(program: &NamedProgram, class: &ClassParts, said: &mut Said) {
     if let Some(name) = bad_face(program, class, LinkKind::BadSuper) {
-        said.words(b"it lists ");
+        said.words(b"it implements ");
         said.name(name);
-        return said.words(b" as an interface, which it isn't");
+        return said.words(b", which isn't an interface");
     }
     said.words(b"it extends ");
     said.name(super_name(class).unwrap_or(b"nothing"));
@@ -102,30 +104,45 @@ fn say_of_class(program: &NamedProgram, class: &ClassParts, kind: LinkKind, said
 
 // ---- a class by a member
 
-/// Says the field or method that code names and that isn't there, or may not be used.
-fn say_bad(program: &NamedProgram, pool: &Pool, kind: LinkKind, one: Named, said: &mut Said) {
-    said.words(b"it uses ");
-    say_named(pool, one, said);
-    if let LinkKind::NotAccessible = kind {
-        return said.words(
-            b", which may not be used so from there: private, of another package, or final",
-        );
-    }
-    let (beyond, advice) = other(program.side());
+/// Says which rule the class, the field or the method breaks that an instruction names.
+fn say_bad(scene: Scene<'_>, kind: LinkKind, op: &Op, rule: &str, said: &mut Said) {
+    let pool = &scene.class.pool;
+    let one = named_at(pool, index_of(op));
+    let (beyond, advice) = other(scene.program.side());
     let owner = class_text(pool, one.class);
-    match member(
+    let found = member(
         beyond,
         owner,
         text_at(pool, one.name),
         text_at(pool, one.desc),
-    ) {
-        Some(_) => said.told(advice),
-        None => said.words(b", which neither that class nor one above it has"),
+    );
+    said.words(b"it uses ");
+    say_named(pool, one, said);
+    said.told(match (kind, found) {
+        (LinkKind::NoMember, Some(_)) => advice,
+        _ => rule,
+    });
+    if let LinkKind::BadUse = kind {
+        said.words(b", by ");
+        said.told(name_of(usize::from(opcode_of(op))));
+        said.words(b": class files of two builds");
     }
 }
 
-/// Says which field or method it is that code names, where members can be resolved: no class stands among its own interfaces.
-fn say_used(scene: Scene<'_>, kind: LinkKind, said: &mut Said) {
+/// Says the class that a member names, and where it does.
+fn say_named_class(scene: Scene<'_>, kind: LinkKind, name: &[u8], place: &str, said: &mut Said) {
+    said.words(b"it names ");
+    if let LinkKind::NoClass = kind {
+        return say_missing(scene.program.side(), name, place, said);
+    }
+    said.name(name);
+    said.told(place);
+    said.words(b", which isn't public and stands in another package");
+}
+
+/// Says which field or method it is that code names, or which class in a frame, where members can be resolved: no class stands among its own
+/// interfaces.
+fn say_used(scene: Scene<'_>, kind: LinkKind, info: &MemberInfo, said: &mut Said) {
     program_laws();
     let Ok(None) = scene.program.naming_fault(said.alloc) else {
         return;
@@ -133,8 +150,12 @@ fn say_used(scene: Scene<'_>, kind: LinkKind, said: &mut Said) {
     let Ok(None) = scene.program.supers_fault(said.alloc) else {
         return;
     };
-    if let Some(one) = bad_member(said.alloc, scene, kind) {
-        say_bad(scene.program, &scene.class.pool, kind, one, said);
+    if let Some((placed, rule)) = bad_member(said.alloc, scene, kind) {
+        return say_bad(scene, kind, &placed.op, rule, said);
+    }
+    let name = bad_in_frames(scene, kind, info);
+    if !name.is_empty() {
+        say_named_class(scene, kind, name, " in a frame", said);
     }
 }
 
@@ -142,20 +163,15 @@ fn say_used(scene: Scene<'_>, kind: LinkKind, said: &mut Said) {
 fn say_names(scene: Scene<'_>, kind: LinkKind, info: &MemberInfo, said: &mut Said) {
     let name = bad_class(scene, kind, info);
     if name.is_empty() {
-        return say_used(scene, kind, said);
+        return say_used(scene, kind, info, said);
     }
-    said.words(b"it names ");
-    if let LinkKind::NoClass = kind {
-        return say_missing(scene.program.side(), name, said);
-    }
-    said.name(name);
-    said.words(b", which isn't public and stands in another package");
+    say_named_class(scene, kind, name, "", said);
 }
 
 /// Says which rule a class breaks by a member.
 fn say_of_member(scene: Scene<'_>, kind: LinkKind, info: &MemberInfo, said: &mut Said) {
     said.told(match kind {
-        LinkKind::NoClass | LinkKind::NoMember | LinkKind::NotAccessible => {
+        LinkKind::NoClass | LinkKind::NoMember | LinkKind::NotAccessible | LinkKind::BadUse => {
             return say_names(scene, kind, info, said);
         }
         LinkKind::LeftOut => left_out(scene, info),
@@ -163,8 +179,7 @@ fn say_of_member(scene: Scene<'_>, kind: LinkKind, info: &MemberInfo, said: &mut
         LinkKind::OverridesLibrary => {
             "it overrides a method of the library that has code: another name"
         }
-        LinkKind::FinalMethod => "it overrides a final method of a class above",
-        _ => "it uses a class or a member otherwise than it is declared: class files of two builds",
+        _ => "it overrides a final method of a class above",
     });
 }
 

@@ -8,6 +8,8 @@ use jresolution::jprogram::{
 };
 use std::alloc::Global;
 
+const CARRIAGE_RETURN: u16 = 13;
+
 /// Why a method of this name, with a descriptor or another, isn't the one with which a run begins.
 fn reason(method: &MemberInfo, is_wanted: bool) -> &'static str {
     if !is_wanted {
@@ -52,6 +54,9 @@ fn part_of<'a>(alloc: Global, program: &'a NamedProgram, name: &Units) -> Option
 pub fn say_main(program: &NamedProgram, name: &Units, said: &mut Said) {
     said.words(b"main ");
     said.units(name.as_slice());
+    if name.as_slice().ends_with(&[CARRIAGE_RETURN]) {
+        return said.words(b": the line ends in a carriage return");
+    }
     let Some(part) = part_of(said.alloc, program, name) else {
         said.words(b": the job has no class of this name, which is written with slashes");
         return;

@@ -31,27 +31,46 @@ fn say_place(path: &str, front: &[u8], said: &mut Said) {
     said.number(b", column ", column, b": ");
 }
 
-/// The size of the token at the front of a text, 0 at its end: a string goes as far as its line does, and another token is a word or one
-/// byte.
-fn token_size(text: &[u8]) -> usize {
+/// A string at the front of a text, as far as its line goes.
+#[derive(Clone, Copy)]
+pub struct Quoted {
+    pub size: usize,
+    /// It is closed there.
+    is_closed: bool,
+    /// It has an escape in digits.
+    has_digits: bool,
+}
+
+/// The string at the front of a text.
+pub fn quoted_at(text: &[u8]) -> Quoted {
+    let mut found = Quoted {
+        size: 0,
+        is_closed: false,
+        has_digits: false,
+    };
+    let mut is_escaped = false;
+    for byte in text {
+        let ends = *byte == b'"' && !is_escaped && found.size != 0;
+        if found.is_closed || b"\n\r".contains(byte) {
+            return found;
+        }
+        found.size = found.size.saturating_add(1);
+        found.is_closed = ends;
+        found.has_digits = found.has_digits || (is_escaped && b"01234567".contains(byte));
+        is_escaped = *byte == b'\\' && !is_escaped;
+    }
+    found
+}
+
+/// The size of the token at the front of a text that is no string, 0 at its end: a word or one byte.
+pub fn token_size(text: &[u8]) -> usize {
     if text.starts_with(b"/*") {
         return 2;
     }
-    let is_string = text.starts_with(b"\"");
     let mut size: usize = 0;
     for byte in text {
-        let goes_on = if is_string {
-            size == 0 || !b"\"\n\r".contains(byte)
-        } else {
-            byte.is_ascii_alphanumeric() || 0x80 <= *byte || b"._$".contains(byte)
-        };
-        if !goes_on {
-            let closes = is_string && *byte == b'"';
-            return if closes {
-                size.saturating_add(1)
-            } else {
-                size.max(1)
-            };
+        if !byte.is_ascii_alphanumeric() && *byte < 0x80 && !b"._$".contains(byte) {
+            return size.max(1);
         }
         size = size.saturating_add(1);
     }
@@ -95,7 +114,14 @@ fn say_allowed(front: &[u8], said: &mut Said) {
 
 /// Says what is wrong with the token at the front of a text.
 fn say_token(text: &[u8], said: &mut Said) {
-    let token = text.get(..token_size(text)).unwrap_or(text);
+    let is_string = text.starts_with(b"\"");
+    let quoted = quoted_at(text);
+    let size = if is_string {
+        quoted.size
+    } else {
+        token_size(text)
+    };
+    let token = text.get(..size).unwrap_or(text);
     if token.is_empty() {
         said.words(b"the text ends there");
         return;
@@ -104,8 +130,10 @@ fn say_token(text: &[u8], said: &mut Said) {
     said.text(str::from_utf8(token).unwrap_or(".."));
     if token.starts_with(b"/*") {
         said.words(b"` begins a comment that isn't closed");
-    } else if token.starts_with(b"\"") && (token.len() == 1 || !token.ends_with(b"\"")) {
+    } else if is_string && !quoted.is_closed {
         said.words(b"` is a string that its line doesn't end");
+    } else if is_string && quoted.has_digits {
+        said.words(b"` has an escape in digits, which isn't read");
     } else {
         said.words(b"` isn't allowed there");
     }

@@ -1,9 +1,12 @@
 ghost use Rattle.jresolution.specs.jprogram.InterfaceSearch.{IsLayered};
 
+use crate::frames::frames_in;
+use crate::misuses::misuse_of;
 use crate::said::Said;
-use crate::scene::Scene;
+use crate::scene::{Scene, halves_of};
 use jclass::{ClassParts, MemberInfo};
-use jparts::jcode::{FieldOp, Ldc, NewOp, Op};
+use jparts::jcode::{FieldOp, Ldc, NewOp, Op, Placed};
+use jparts::jmaps::MapType;
 use jparts::jpool::{Entry, Pool};
 use jresolution::jprogram::{LinkKind, NamedProgram, class_text, member_desc, text_at, this_name};
 use std::alloc::Global;
@@ -16,10 +19,13 @@ pub struct Named {
     pub desc: u16,
 }
 
-/// Says a member: its class, its name and its descriptor.
+/// Says a class, or a member: its class, its name and its descriptor.
 pub fn say_named(pool: &Pool, one: Named, said: &mut Said) {
     let desc = text_at(pool, one.desc);
     said.name(class_text(pool, one.class));
+    if one.name == 0 {
+        return;
+    }
     said.words(b".");
     said.name(text_at(pool, one.name));
     if !desc.starts_with(b"(") {
@@ -115,17 +121,34 @@ impl<'a> Search<'a> {
         }
         self.meet_desc(text_at(pool, one.desc));
     }
+
+    /// Meets the classes that items of a frame name.
+    fn meet_items(&mut self, items: &[MapType]) {
+        for item in items {
+            if let MapType::Object(i) = item {
+                self.meet_entry(*i);
+            }
+        }
+    }
 }
 
-/// The first class that a member names and that breaks a rule. Empty where there is none.
-pub fn bad_class<'a>(scene: Scene<'a>, kind: LinkKind, info: &MemberInfo) -> &'a [u8] {
-    let mut search = Search {
+/// The search of a kind, before any class is met.
+fn search_for<'a>(scene: Scene<'a>, kind: LinkKind) -> Search<'a> {
+    Search {
         program: scene.program,
         class: scene.class,
         kind,
         found: b"",
-    };
-    search.meet_desc(member_desc(scene.class, info));
+    }
+}
+
+/// The first class that a member names, but in its frames, and that breaks a rule. Empty where there is none. Those of its descriptor are
+/// there; whether they may be named isn't asked.
+pub fn bad_class<'a>(scene: Scene<'a>, kind: LinkKind, info: &MemberInfo) -> &'a [u8] {
+    let mut search = search_for(scene, kind);
+    if let LinkKind::NoClass = kind {
+        search.meet_desc(member_desc(scene.class, info));
+    }
     for one in scene.code.ops {
         search.meet_entry(index_of(&one.op));
     }
@@ -135,38 +158,62 @@ pub fn bad_class<'a>(scene: Scene<'a>, kind: LinkKind, info: &MemberInfo) -> &'a
     search.found
 }
 
+/// The first class that the frames of a member's code name and that breaks a rule: in the first frame those of its parameters. Empty where
+/// there is none.
+pub fn bad_in_frames<'a>(scene: Scene<'a>, kind: LinkKind, info: &MemberInfo) -> &'a [u8] {
+    let mut search = search_for(scene, kind);
+    let frames = frames_in(scene.code.attributes);
+    if !frames.is_empty() {
+        let desc = member_desc(scene.class, info);
+        let (params, _) = halves_of(desc);
+        search.meet_desc(params);
+    }
+    for frame in frames {
+        search.meet_items(frame.locals.as_slice());
+        search.meet_items(frame.stack.as_slice());
+    }
+    search.found
+}
+
 // ---- members
 
-/// Whether the member that an instruction names by an entry of the pool breaks a rule: it isn't there, or may not be used from there.
-fn breaks(alloc: Global, scene: Scene<'_>, kind: LinkKind, op: &Op, i: u16) -> bool
+/// Which rule the member breaks that an instruction names by an entry of the pool, in words: it isn't there, may not be used from there, or
+/// is used otherwise than it is declared. Empty where it breaks none.
+fn broken(alloc: Global, scene: Scene<'_>, kind: LinkKind, op: &Op, one: Named) -> &'static str
     requires { IsLayered scene.program.now }
 {
     let program = scene.program;
-    let member = match program.resolved(alloc, scene.method.class, i) {
-        Ok(Some(member)) => member,
-        Ok(None) => return matches!(kind, LinkKind::NoMember),
-        Err(_) => return false,
-    };
-    let LinkKind::NotAccessible = kind else {
-        return false;
+    let found = program.resolved(alloc, scene.method.class, index_of(op));
+    let member = match (kind, found) {
+        (LinkKind::NoMember, Ok(None)) if one.name != 0 => {
+            return ", which neither that class nor one above it has";
+        }
+        (LinkKind::BadUse, Ok(member)) => return misuse_of(scene, op, one, member),
+        (LinkKind::NotAccessible, Ok(Some(member))) => member,
+        _ => return "",
     };
     let from = this_name(scene.class);
-    match op {
-        Op::Field(FieldOp::PutStatic | FieldOp::PutField, _)
-            if program.is_final(member) && program.owner_of(member) != from => { true }
-        _ => !program.may_use(from, member),
+    let puts = matches!(op, Op::Field(FieldOp::PutStatic | FieldOp::PutField, _));
+    let is_fixed = puts && program.is_final(member) && program.owner_of(member) != from;
+    if is_fixed || !program.may_use(from, member) {
+        return ", which may not be used so from there: private, of another package, or final";
     }
+    ""
 }
 
-/// The first field or method to which a method's code refers and that breaks a rule.
-pub fn bad_member(alloc: Global, scene: Scene<'_>, kind: LinkKind) -> Option<Named>
+/// The first thing that a method's code names and that breaks a rule, with the instruction and the rule.
+pub fn bad_member<'a>(
+    alloc: Global,
+    scene: Scene<'a>,
+    kind: LinkKind,
+) -> Option<(&'a Placed, &'static str)>
     requires { IsLayered scene.program.now }
 {
     for placed in scene.code.ops {
-        let i = index_of(&placed.op);
-        let one = named_at(&scene.class.pool, i);
-        if one.name != 0 && breaks(alloc, scene, kind, &placed.op, i) {
-            return Some(one);
+        let one = named_at(&scene.class.pool, index_of(&placed.op));
+        let rule = broken(alloc, scene, kind, &placed.op, one);
+        if !rule.is_empty() {
+            return Some((placed, rule));
         }
     }
     None

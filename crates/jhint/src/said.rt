@@ -55,6 +55,13 @@ impl Said {
         said
     }
 
+    /// A line that begins with the program's name and a file's.
+    pub fn of_file(alloc: Global, path: &str) -> Said {
+        let mut said = Said::new(alloc);
+        said.text(path);
+        said
+    }
+
     /// Words of the program's own.
     pub fn words<const N: usize>(&mut self, words: &[u8; N]) {
         let _ = put_all(self, words);

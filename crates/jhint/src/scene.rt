@@ -27,6 +27,17 @@ fn member_at(class: &ClassParts, number: Option<u32>) -> Option<&MemberInfo> {
     methods.get(place).or(field)
 }
 
+/// A method's descriptor before and from the mark on that ends its parameters.
+pub fn halves_of(desc: &[u8]) -> (&[u8], &[u8]) {
+    let mut end: usize = 0;
+    for (at, byte) in desc.iter().enumerate() {
+        if *byte == b')' {
+            end = at;
+        }
+    }
+    desc.split_at(end.min(desc.len()))
+}
+
 /// Says of which class a sentence is, of which member and of which of its bytes, where it is of one.
 fn say_place(class: &ClassParts, info: Option<&MemberInfo>, at: Option<u32>, said: &mut Said) {
     said.words(b"class ");

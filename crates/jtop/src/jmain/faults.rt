@@ -29,6 +29,9 @@ fn unread_reason(rt: &HostRuntime, path: &str) -> &'static str {
             if found.is_dir() {
                 return "it is a folder";
             }
+            if !found.is_file() {
+                return "";
+            }
             if (MOST_READ as u64) < found.len() {
                 return "it has more than 67,108,864 bytes";
             }
@@ -51,9 +54,20 @@ fn unstored_reason(rt: &HostRuntime, path: &str) -> &'static str {
     }
 }
 
+/// Whether a path that isn't one of the command's words ends in a carriage return.
+fn ends_in_return(words: &[String], path: &str) -> bool {
+    for word in words {
+        if word.as_str() == path {
+            return false;
+        }
+    }
+    path.ends_with('\r')
+}
+
 /// Says which file couldn't be read, and why.
-pub fn say_unread<K: Sink>(rt: &HostRuntime, path: Option<&str>, out: &mut K) {
+pub fn say_unread<K: Sink>(rt: &HostRuntime, words: &[String], path: Option<&str>, out: &mut K) {
     let reason = match path {
+        Some(path) if ends_in_return(words, path) => "the line ends in a carriage return",
         Some(path) => unread_reason(rt, path),
         None => "",
     };
