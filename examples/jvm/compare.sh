@@ -24,7 +24,7 @@ one() {
         echo "refused $uses $name"
         return
     fi
-    "$program" policy "out-$name/job" >"$name.grants"
+    "$program" policy "out-$name/job" >"$name.grants" 2>/dev/null
     "$program" run --form=plain "out-$name/job" >"$name.told" 2>/dev/null || status=$?
     if [ $status -eq 3 ]; then
         echo "refused $uses $name"
