@@ -35,7 +35,8 @@ pub fn call_thread<G: Guard>(
     ensures rules { G.rules guard.new ≡ G.rules guard.old }
     ensures keeps { Keeps (G.kept guard.old) (G.kept guard.new) }
     ensures marks { Keeps (G.entry guard.old) (G.entry guard.new) }
-    ensures quiet { (f : Framed G.Mark) → m.old.guests.running.frames ≡ Some f → asked_of m.old f (calls.Thread call) count ≡ None → guard.new ≡ guard.old }
+    ensures quiet { (f : Framed G.Mark) → m.old.guests.running.frames ≡ Some f → asked_of m.old f (calls.Thread call) count ≡ None
+        → guard.new ≡ guard.old }
     ensures once { OnOk result ((f : Framed G.Mark) → m.old.guests.running.frames ≡ Some f
         → AskedOnce G.asked guard.old guard.new (asked_of m.old f (calls.Thread call) count)) }
 {

@@ -19,7 +19,8 @@ fn fault_of(alloc: Global, p: &LinkedProgram) -> Result<Option<Place>, AllocErro
 /// because no memory was left. One pass over each method, holding one frame.
 #[tactic(auto, unfolding(jtyping::specs::jwelltyped::VerifierTests::WellTyped))]
 pub fn check(alloc: Global, p: LinkedProgram) -> Result<CheckedProgram, (LinkedProgram, TypeFault)>
-    ensures { MatchResult result (λ q. (q ≡ p) × (VerifierTests.type_fault p ≡ None)) (λ e. (e.0 ≡ p) × TypeFaultIs (VerifierTests.type_fault p) e.1) }
+    ensures { MatchResult result (λ q. (q ≡ p) × (VerifierTests.type_fault p ≡ None))
+        (λ e. (e.0 ≡ p) × TypeFaultIs (VerifierTests.type_fault p) e.1) }
 {
     match fault_of(alloc, &p) {
         Ok(None) => Ok(CheckedProgram { program: p }),

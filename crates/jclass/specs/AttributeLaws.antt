@@ -31,12 +31,14 @@ index_law test = such_law (λ i. unless (test i) Index) u2 u2_law
 
 -- ---- one of two by a test
 
-again_left : {A B : Type 0} (f : Format ClassFault A) (g : Format ClassFault B) → IsFormat f → (x : A ⊎ B) (rest : List ℕ) → IsTrue ((by_test true f g).fits x)
+again_left : {A B : Type 0} (f : Format ClassFault A) (g : Format ClassFault B) → IsFormat f → (x : A ⊎ B) (rest : List ℕ)
+    → IsTrue ((by_test true f g).fits x)
     → (by_test true f g).read ((by_test true f g).spell x ++ rest) ≡ Ok (x, rest)
 again_left f g F (inl a) rest fit = rw (F.again a rest fit) refl
 again_left f g F (inr b) rest fit = absurd cc
 
-again_right : {A B : Type 0} (f : Format ClassFault A) (g : Format ClassFault B) → IsFormat g → (x : A ⊎ B) (rest : List ℕ) → IsTrue ((by_test false f g).fits x)
+again_right : {A B : Type 0} (f : Format ClassFault A) (g : Format ClassFault B) → IsFormat g → (x : A ⊎ B) (rest : List ℕ)
+    → IsTrue ((by_test false f g).fits x)
     → (by_test false f g).read ((by_test false f g).spell x ++ rest) ≡ Ok (x, rest)
 again_right f g G (inl a) rest fit = absurd cc
 again_right f g G (inr b) rest fit = rw (G.again b rest fit) refl
@@ -48,7 +50,8 @@ by_test_law {A} {B} true f g F G = record {
       let s = F.takes bytes a.0 fits a.1 in
       let made : (A ⊎ B) × List ℕ = (inl a.0.0, a.0.1) in
       let same : made ≡ x = ok_is (Fault ClassFault) made x a.2 in
-      let all : Takes (by_test true f g).spell (by_test true f g).fits bytes made = record { parts = s.parts; rest_fits = s.rest_fits; fit = s.fit } in
+      let all : Takes (by_test true f g).spell (by_test true f g).fits bytes made =
+      record { parts = s.parts; rest_fits = s.rest_fits; fit = s.fit } in
       subst (λ (y : (A ⊎ B) × List ℕ). Takes (by_test true f g).spell (by_test true f g).fits bytes y) same all;
   again = again_left f g F;
   reading = ok_reading f.read inl F.reading;
@@ -59,7 +62,8 @@ by_test_law {A} {B} false f g F G = record {
       let s = G.takes bytes b.0 fits b.1 in
       let made : (A ⊎ B) × List ℕ = (inr b.0.0, b.0.1) in
       let same : made ≡ x = ok_is (Fault ClassFault) made x b.2 in
-      let all : Takes (by_test false f g).spell (by_test false f g).fits bytes made = record { parts = s.parts; rest_fits = s.rest_fits; fit = s.fit } in
+      let all : Takes (by_test false f g).spell (by_test false f g).fits bytes made =
+      record { parts = s.parts; rest_fits = s.rest_fits; fit = s.fit } in
       subst (λ (y : (A ⊎ B) × List ℕ). Takes (by_test false f g).spell (by_test false f g).fits bytes y) same all;
   again = again_right f g G;
   reading = ok_reading g.read inr G.reading;

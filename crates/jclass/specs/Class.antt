@@ -42,7 +42,10 @@ class_from p = record {
 }
 
 abbrev pub class_parts : ClassParts → HeadParts × TailParts
-class_parts c = ((tt, (c.minor, (c.major, c.pool))), (c.flags, (c.this_class, (c.super_class, (c.interfaces, (c.fields, (c.methods, c.attributes)))))))
+class_parts c = (
+  (tt, (c.minor, (c.major, c.pool))),
+  (c.flags, (c.this_class, (c.super_class, (c.interfaces, (c.fields, (c.methods, c.attributes)))))),
+)
 
 -- the second and third pass
 unfoldable pub strict : Format ClassFault ClassParts

@@ -118,7 +118,8 @@ abbrev pub behind_ops : List Entry → List Placed → Format ClassFault (List H
 behind_ops pool ps = counted u2 (handler pool ps) · counted_from u2 (attribute pool) saw_maps false
 
 abbrev pub a_body : ℕ → ℕ → List Placed → List Handler → List CodeAttribute → CodeBody
-a_body stack locals ops handlers attributes = record { max_stack = stack; max_locals = locals; ops = ops; handlers = handlers; attributes = attributes }
+a_body stack locals ops handlers attributes =
+    record { max_stack = stack; max_locals = locals; ops = ops; handlers = handlers; attributes = attributes }
 
 -- the content of a Code attribute
 unfoldable pub code_content : List Entry → Format ClassFault CodeBody

@@ -42,11 +42,14 @@ plain_law = frames_law frame_kinds plain_type (type_law frame_kinds)
 pub named_law : (pool : List Entry) → IsBody (frames frame_kinds (named_type pool))
 named_law pool = frames_law frame_kinds (named_type pool) (such_law (type_fault pool) plain_type (type_law frame_kinds))
 
-pub named_spelling : (pool : List Entry) (fs : List RawFrame) → (frames frame_kinds (named_type pool)).spell fs ≡ (frames frame_kinds plain_type).spell fs
+pub named_spelling : (pool : List Entry) (fs : List RawFrame)
+    → (frames frame_kinds (named_type pool)).spell fs ≡ (frames frame_kinds plain_type).spell fs
 named_spelling pool fs = frames_spelling frame_kinds frame_kinds (named_type pool) plain_type refl fs
 
-pub named_fitting : (pool : List Entry) (fs : List RawFrame) → IsTrue ((frames frame_kinds (named_type pool)).fits fs) → IsTrue ((frames frame_kinds plain_type).fits fs)
-named_fitting pool fs fit = frames_fitting frame_kinds frame_kinds (named_type pool) plain_type (λ t f. first_true (plain_type.fits t) (is_good (type_fault pool t)) f) fs fit
+pub named_fitting : (pool : List Entry) (fs : List RawFrame) → IsTrue ((frames frame_kinds (named_type pool)).fits fs)
+    → IsTrue ((frames frame_kinds plain_type).fits fs)
+named_fitting pool fs fit = frames_fitting frame_kinds frame_kinds (named_type pool) plain_type
+    (λ t f. first_true (plain_type.fits t) (is_good (type_fault pool t)) f) fs fit
 
 pub maps_law : (pool : List Entry) → IsBody (maps pool)
 unfolding maps
@@ -77,19 +80,22 @@ four_law = pair_law u2 _ u2_law (pair_law u2 _ u2_law (pair_law u2 u2 u2_law u2_
 three_law : (pool : List Entry) → IsFormat (u2 · u2 · u2 · index (names_caught pool))
 three_law pool = pair_law u2 _ u2_law (pair_law u2 _ u2_law (pair_law u2 _ u2_law (index_law (names_caught pool))))
 
-looser : (pool : List Entry) (p : ℕ × (ℕ × (ℕ × ℕ))) → IsTrue ((u2 · u2 · u2 · index (names_caught pool)).fits p) → IsTrue ((u2 · u2 · u2 · u2).fits p)
+looser : (pool : List Entry) (p : ℕ × (ℕ × (ℕ × ℕ))) → IsTrue ((u2 · u2 · u2 · index (names_caught pool)).fits p)
+    → IsTrue ((u2 · u2 · u2 · u2).fits p)
 looser pool p fit =
     let a = first_true (u2.fits p.0) ((u2 · u2 · index (names_caught pool)).fits p.1) fit in
     let bs = second_true (u2.fits p.0) ((u2 · u2 · index (names_caught pool)).fits p.1) fit in
     let b = first_true (u2.fits p.1.0) ((u2 · index (names_caught pool)).fits p.1.1) bs in
     let cs = second_true (u2.fits p.1.0) ((u2 · index (names_caught pool)).fits p.1.1) bs in
     let c = first_true (u2.fits p.1.1.0) ((index (names_caught pool)).fits p.1.1.1) cs in
-    let d = first_true (u2.fits p.1.1.1) (is_good (unless (names_caught pool p.1.1.1) Index)) (second_true (u2.fits p.1.1.0) ((index (names_caught pool)).fits p.1.1.1) cs) in
+    let d = first_true (u2.fits p.1.1.1) (is_good (unless (names_caught pool p.1.1.1) Index))
+    (second_true (u2.fits p.1.1.0) ((index (names_caught pool)).fits p.1.1.1) cs) in
     both _ _ a (both _ _ b (both _ _ c d))
 
 handler_law : (pool : List Entry) (ps : List Placed) → IsFormat (handler pool ps)
 unfolding handler
-handler_law pool ps = ahead_law (u2 · u2 · u2 · u2).read handler_parts (target_fault ps) (via (λ p. record { start = p.0; end = p.1.0; at = p.1.1.0; class = p.1.1.1 }) handler_parts (u2 · u2 · u2 · index (names_caught pool)))
+handler_law pool ps = ahead_law (u2 · u2 · u2 · u2).read handler_parts (target_fault ps)
+    (via (λ p. record { start = p.0; end = p.1.0; at = p.1.1.0; class = p.1.1.1 }) handler_parts (u2 · u2 · u2 · index (names_caught pool)))
     (via_law _ handler_parts (u2 · u2 · u2 · index (names_caught pool)) (λ p fit. refl) (λ h fit. refl) (three_law pool))
     (λ h rest fit. four_law.again (handler_parts h) rest (looser pool (handler_parts h) fit)) four_law.reading.within
 
@@ -103,7 +109,8 @@ pub told_ok : {K L A : Type 0} (name : K → L) (r : Result A (Fault K)) (x : A)
 told_ok name (Ok y) x e = cc
 told_ok name (Err d) x e = absurd cc
 
-pub told_err : {K L A : Type 0} (name : K → L) (r : Result A (Fault K)) (d : Fault L) → told name r ≡ Err d → (c : Fault K) × (r ≡ Err c) × (d.left ≡ c.left)
+pub told_err : {K L A : Type 0} (name : K → L) (r : Result A (Fault K)) (d : Fault L) → told name r ≡ Err d
+    → (c : Fault K) × (r ≡ Err c) × (d.left ≡ c.left)
 told_err name (Ok y) d e = absurd cc
 told_err {K} {L} name (Err c) d e =
     let made : Fault L = record { left = c.left; kind = name c.kind } in
@@ -120,7 +127,8 @@ misnamed_within bytes ps (Some at) d e =
     let same : made ≡ d = cc in
     subst (λ (y : Fault ClassFault). y.left ≤ length bytes) same (omega arith)
 
-well_or : (pool : List Entry) (p : Placed) (later : Option ℕ) → or_else (misnamed pool p) later ≡ None → (IsTrue (names_well pool p.op)) × (later ≡ None)
+well_or : (pool : List Entry) (p : Placed) (later : Option ℕ) → or_else (misnamed pool p) later ≡ None
+    → (IsTrue (names_well pool p.op)) × (later ≡ None)
 well_or pool p later e = elim (cases_Bool (names_well pool p.op)) [
   | inl well ↦ (well, rw well at e)
   | inr other ↦ let no : Some p.at ≡ None = rw other at e in absurd cc
@@ -148,7 +156,8 @@ ops_law pool = record {
       let a = bind_ok (told code_fault (Instructions.code.read bytes)) (λ qs. none_misnamed bytes qs (first_some (misnamed pool) qs)) ps e in
       let n = none_is bytes a.0 ps (first_some (misnamed pool) a.0) a.2 in
       let s = coded.code_law.takes bytes a.0 fits (told_ok code_fault (Instructions.code.read bytes) a.0 a.1) in
-      subst (λ (qs : List Placed). IsTrue (Instructions.code.fits qs && list_all (λ p. names_well pool p.op) qs) × (bytes ≡ Instructions.code.spell qs))
+      subst (λ (qs : List Placed). IsTrue (Instructions.code.fits qs && list_all (λ p. names_well pool p.op) qs)
+      × (bytes ≡ Instructions.code.spell qs))
       n.1 (both _ _ s.0 (all_well pool a.0 n.0), s.1);
   again = λ ps fit.
       let one = coded.code_law.again ps (first_true (Instructions.code.fits ps) (list_all (λ p. names_well pool p.op) ps) fit) in
@@ -156,7 +165,8 @@ ops_law pool = record {
       rw (one, none) refl;
   within = λ bytes d e.
       elim (bind_err (told code_fault (Instructions.code.read bytes)) (λ qs. none_misnamed bytes qs (first_some (misnamed pool) qs)) d e) [
-        | inl h ↦ let c = told_err code_fault (Instructions.code.read bytes) d h in let le : c.0.left ≤ length bytes = coded.code_law.within bytes c.0 c.1 in rw c.2 le
+        | inl h ↦ let c = told_err code_fault (Instructions.code.read bytes) d h in let le : c.0.left ≤ length bytes =
+            coded.code_law.within bytes c.0 c.1 in rw c.2 le
         | inr h ↦ misnamed_within bytes h.0 (first_some (misnamed pool) h.0) d h.2
       ];
 }
@@ -166,7 +176,8 @@ unfolding code_content
 code_content_law pool = via_law _ _ (u2 · u2 · (block code_length Truncated (ops pool) ▹ behind_ops pool)) (λ p fit. refl) (λ c fit. refl)
     (pair_law u2 _ u2_law (pair_law u2 _ u2_law (then_law (block code_length Truncated (ops pool)) (behind_ops pool)
     (block_law code_length Truncated (ops pool) code_length_law (ops_law pool))
-    (λ ps. pair_law (counted u2 (handler pool ps)) (counted_from u2 (attribute pool) saw_maps false) (counted_law u2 (handler pool ps) u2_law (handler_law pool ps))
+    (λ ps. pair_law (counted u2 (handler pool ps)) (counted_from u2 (attribute pool) saw_maps false)
+    (counted_law u2 (handler pool ps) u2_law (handler_law pool ps))
     (counted_from_law u2 (attribute pool) saw_maps u2_law (attribute_law pool) false)))))
 
 pub code_body_law : (pool : List Entry) → IsBody (code_body pool)

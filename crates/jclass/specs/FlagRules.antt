@@ -78,7 +78,8 @@ method_descriptor pool a = such (λ i. descriptor_fault (λ text. within (most_s
 -- ---- constant values (JVMS 4.7.2)
 
 abbrev pub is_int : List ℕ → Bool
-is_int text = bytes_eq text (codes "I") || bytes_eq text (codes "S") || bytes_eq text (codes "C") || bytes_eq text (codes "B") || bytes_eq text (codes "Z")
+is_int text = bytes_eq text (codes "I") || bytes_eq text (codes "S") || bytes_eq text (codes "C") || bytes_eq text (codes "B")
+    || bytes_eq text (codes "Z")
 
 -- whether a field of a type may have this entry as its constant
 abbrev pub suits : List ℕ → Option Entry → Bool

@@ -30,7 +30,8 @@ member_parts m = (m.flags, (m.name, (m.desc, m.attributes)))
 -- ---- fields
 
 unfoldable pub field : List Entry → Format ClassFault MemberInfo
-field pool = via member_from member_parts (access ▹ λ a. text_index pool · (field_descriptor pool ▹ λ desc. counted_from u2 (field_attribute pool a desc) saw_constant false))
+field pool = via member_from member_parts
+    (access ▹ λ a. text_index pool · (field_descriptor pool ▹ λ desc. counted_from u2 (field_attribute pool a desc) saw_constant false))
 
 -- ---- methods
 

@@ -35,7 +35,9 @@ pub fn stored_laws()
     // Each handler covers instructions and leads to one.
     ensures handlers { (c : ClassParts) (b : CodeBody) (h : Handler) → HasCode c b → IsIn h b.handlers → Leads b.ops h }
     // The frames of a code are frames.
-    ensures frames { (c : ClassParts) (b : CodeBody) (name : ℕ) (fs : List RawFrame) → HasCode c b → IsIn (Maps name fs) b.attributes → IsTrue (maps.fits fs) }
+    ensures frames { (c : ClassParts) (b : CodeBody) (name : ℕ) (fs : List RawFrame) → HasCode c b → IsIn (Maps name fs) b.attributes
+        → IsTrue (maps.fits fs) }
     // Each text of the pool is modified UTF-8.
-    ensures texts { (c : ClassParts) (i : ℕ) (text : List ℕ) → IsTrue (class_file.fits c) → slice_get c.pool i ≡ Some (Utf8 text) → IsTrue (is_modified text) }
+    ensures texts { (c : ClassParts) (i : ℕ) (text : List ℕ) → IsTrue (class_file.fits c) → slice_get c.pool i ≡ Some (Utf8 text)
+        → IsTrue (is_modified text) }
 {}

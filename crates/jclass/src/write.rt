@@ -413,7 +413,8 @@ fn put_field_attributes(
     out: &mut Seq<u8>,
 ) -> Result<(), AllocError>
     requires { IsTrue ((counted_from u2 (field_attribute pool.now one.now.flags one.now.desc) saw_constant false).fits one.now.attributes) }
-    ensures { OnOk result (out.new ≡ out.old ++ (counted_from u2 (field_attribute pool.now one.now.flags one.now.desc) saw_constant false).spell one.now.attributes) }
+    ensures { OnOk result
+        (out.new ≡ out.old ++ (counted_from u2 (field_attribute pool.now one.now.flags one.now.desc) saw_constant false).spell one.now.attributes) }
 {
     let attributes = one.attributes.as_slice();
     let writer = FieldAttributeWriter {

@@ -10,6 +10,8 @@
 //! Proved: `CodeSource::read` takes exactly the URLs of directories, and says whether any other text is no URL or no directory;
 //! `matches` says exactly whether a grant is for the code of a source; `Domains::open` gives each source exactly the permissions of the
 //! grants that are for it, in order, and `implies` whether they cover a permission.
+//!
+//! `ProofNames` are names by which proofs and contracts of inner functions call what the definitions say in place.
 #![tactic(auto)]
 
 mod code;

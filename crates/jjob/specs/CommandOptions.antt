@@ -10,7 +10,10 @@ abbrev pub rest : Rule
 rest = record (new_rule (codes "words")) { action = Some Append }
 
 abbrev pub bare : App
-bare = record (new_app (codes "javasec")) { top = record (new_app (codes "javasec")).top { no_binary_name = true; disable_help_flag = true; disable_version_flag = true } }
+bare = record (new_app (codes "javasec")) {
+  top =
+      record (new_app (codes "javasec")).top { no_binary_name = true; disable_help_flag = true; disable_version_flag = true };
+}
 
 abbrev pub app : App
 app = with_rule (with_rule bare form) rest

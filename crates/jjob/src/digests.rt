@@ -33,7 +33,7 @@ pub fn are_apart(mut numbers: Vec<u64>) -> bool
 }
 
 /// Whether no number is equal to the one behind it.
-#[tactic(auto, using(crate::proofs::JobDigests::differ_none, crate::proofs::JobDigests::differ_begins), unfolding(crate::specs::JobNames::differ_from))]
+#[tactic(auto, using(crate::proofs::JobDigests::differ_none, crate::proofs::JobDigests::differ_begins), unfolding(crate::specs::JobNames::differ_from),)]
 fn neighbours_differ(numbers: &[u64]) -> bool
     ensures { result ≡ neighbours_differ numbers.now }
 {

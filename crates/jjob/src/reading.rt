@@ -35,7 +35,8 @@ pub fn read_job(alloc: Global, bytes: &[u8]) -> Result<Job, JobError>
 
 /// The text of UTF-8 bytes, or the place of the first bad one.
 fn text_of(bytes: &[u8]) -> Result<&str, usize>
-    ensures cases { MatchResult result (λ text. (text.now ≡ bytes.now) × (is_utf8 bytes.now ≡ true)) (λ place. (place ≡ utf8_valid_len bytes.now) × (is_utf8 bytes.now ≡ false)) }
+    ensures cases { MatchResult result (λ text. (text.now ≡ bytes.now) × (is_utf8 bytes.now ≡ true))
+        (λ place. (place ≡ utf8_valid_len bytes.now) × (is_utf8 bytes.now ≡ false)) }
     ensures within { IfErr result (λ place. place ≤ length bytes.now) }
 {
     match str::from_utf8(bytes) {

@@ -72,9 +72,12 @@ thrown_row thrown.IllegalArgumentException = open_class (codes "java/lang/Illega
 thrown_row thrown.IllegalStateException = open_class (codes "java/lang/IllegalStateException") (lib.Thrown thrown.RuntimeException)
 thrown_row thrown.IndexOutOfBoundsException = open_class (codes "java/lang/IndexOutOfBoundsException") (lib.Thrown thrown.RuntimeException)
 thrown_row thrown.SecurityException = open_class (codes "java/lang/SecurityException") (lib.Thrown thrown.RuntimeException)
-thrown_row thrown.IllegalThreadStateException = open_class (codes "java/lang/IllegalThreadStateException") (lib.Thrown thrown.IllegalArgumentException)
-thrown_row thrown.ArrayIndexOutOfBoundsException = open_class (codes "java/lang/ArrayIndexOutOfBoundsException") (lib.Thrown thrown.IndexOutOfBoundsException)
-thrown_row thrown.StringIndexOutOfBoundsException = open_class (codes "java/lang/StringIndexOutOfBoundsException") (lib.Thrown thrown.IndexOutOfBoundsException)
+thrown_row thrown.IllegalThreadStateException = open_class (codes "java/lang/IllegalThreadStateException")
+    (lib.Thrown thrown.IllegalArgumentException)
+thrown_row thrown.ArrayIndexOutOfBoundsException = open_class (codes "java/lang/ArrayIndexOutOfBoundsException")
+    (lib.Thrown thrown.IndexOutOfBoundsException)
+thrown_row thrown.StringIndexOutOfBoundsException = open_class (codes "java/lang/StringIndexOutOfBoundsException")
+    (lib.Thrown thrown.IndexOutOfBoundsException)
 thrown_row thrown.LinkageError = open_class (codes "java/lang/LinkageError") (lib.Thrown thrown.Error)
 thrown_row thrown.VirtualMachineError = plain kind.OpenAbstract (codes "java/lang/VirtualMachineError") (lib.Thrown thrown.Error)
 thrown_row thrown.IncompatibleClassChangeError = open_class (codes "java/lang/IncompatibleClassChangeError") (lib.Thrown thrown.LinkageError)
@@ -147,7 +150,8 @@ classes =
     ∷ thrown.NullPointerException ∷ thrown.ClassCastException ∷ thrown.NegativeArraySizeException ∷ thrown.ArrayStoreException
     ∷ thrown.IllegalArgumentException ∷ thrown.IllegalStateException ∷ thrown.IndexOutOfBoundsException ∷ thrown.SecurityException
     ∷ thrown.IllegalThreadStateException ∷ thrown.ArrayIndexOutOfBoundsException ∷ thrown.StringIndexOutOfBoundsException ∷ thrown.LinkageError
-    ∷ thrown.VirtualMachineError ∷ thrown.IncompatibleClassChangeError ∷ thrown.AbstractMethodError ∷ thrown.IllegalAccessError ∷ thrown.StackOverflowError
+    ∷ thrown.VirtualMachineError ∷ thrown.IncompatibleClassChangeError ∷ thrown.AbstractMethodError ∷ thrown.IllegalAccessError
+    ∷ thrown.StackOverflowError
     ∷ [])
     ++ lib.AccessControlException
     ∷ lib.String ∷ lib.StringBuilder ∷ lib.System ∷ lib.PrintStream ∷ lib.Void ∷ lib.Cloneable ∷ lib.Serializable ∷ lib.Runnable

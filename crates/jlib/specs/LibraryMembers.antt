@@ -62,14 +62,22 @@ abstract_on side = a_member (Alone side) kind.AbstractMethod
 
 -- the type of such a piece in a descriptor
 abbrev pub piece_type : PrintedType → List ℕ
-piece_type = elim [ piece.Int ↦ codes "I" | piece.Long ↦ codes "J" | piece.Char ↦ codes "C" | piece.Bool ↦ codes "Z" | piece.Text ↦ codes "Ljava/lang/String;" ]
+piece_type = elim [
+  | piece.Int ↦ codes "I"
+  | piece.Long ↦ codes "J"
+  | piece.Char ↦ codes "C"
+  | piece.Bool ↦ codes "Z"
+  | piece.Text ↦ codes "Ljava/lang/String;"
+]
 
 abbrev pub controller_row : ControllerCall → Member
 controller_row controller.Check = static_on Source lib.AccessController (codes "checkPermission") (codes "(Ljava/security/Permission;)V")
 controller_row controller.Snapshot = static_on Source lib.AccessController (codes "getContext") (codes "()Ljava/security/AccessControlContext;")
-controller_row controller.Privileged = static_on Source lib.AccessController (codes "doPrivileged") (codes "(Ljava/security/PrivilegedAction;)Ljava/lang/Object;")
+controller_row controller.Privileged = static_on Source lib.AccessController (codes "doPrivileged")
+    (codes "(Ljava/security/PrivilegedAction;)Ljava/lang/Object;")
 controller_row controller.PrivilegedWith =
-    static_on Source lib.AccessController (codes "doPrivileged") (codes "(Ljava/security/PrivilegedAction;Ljava/security/AccessControlContext;)Ljava/lang/Object;")
+    static_on Source lib.AccessController (codes "doPrivileged")
+    (codes "(Ljava/security/PrivilegedAction;Ljava/security/AccessControlContext;)Ljava/lang/Object;")
 controller_row controller.PrivilegedLimited =
     static_on Source lib.AccessController (codes "doPrivileged")
     (codes "(Ljava/security/PrivilegedAction;Ljava/security/AccessControlContext;[Ljava/security/Permission;)Ljava/lang/Object;")
@@ -88,7 +96,8 @@ rt_row rt.Enter = static_on Passing lib.Rt (codes "enter") (codes "(Lsps/Ctx;I)L
 rt_row rt.Check = static_on Passing lib.Rt (codes "check") (codes "(Ljava/security/Permission;Lsps/Ctx;)V")
 rt_row rt.Snapshot = static_on Passing lib.Rt (codes "snapshot") (codes "(Lsps/Ctx;)Ljava/security/AccessControlContext;")
 rt_row rt.Privileged = static_on Passing lib.Rt (codes "priv") (codes "(Ljava/security/PrivilegedAction;I)Ljava/lang/Object;")
-rt_row rt.PrivilegedWith = static_on Passing lib.Rt (codes "privWith") (codes "(Ljava/security/PrivilegedAction;Ljava/security/AccessControlContext;I)Ljava/lang/Object;")
+rt_row rt.PrivilegedWith = static_on Passing lib.Rt (codes "privWith")
+    (codes "(Ljava/security/PrivilegedAction;Ljava/security/AccessControlContext;I)Ljava/lang/Object;")
 rt_row rt.PrivilegedLimited =
     static_on Passing lib.Rt (codes "privLimited")
     (codes "(Ljava/security/PrivilegedAction;Ljava/security/AccessControlContext;[Ljava/security/Permission;Lsps/Ctx;I)Ljava/lang/Object;")
@@ -166,10 +175,12 @@ members lib.StringBuilder =
     ∷ call.Builder (builder.Append piece.Int) ∷ call.Builder (builder.Append piece.Long) ∷ call.Builder (builder.Append piece.Char)
     ∷ call.Builder (builder.Append piece.Bool) ∷ call.Builder (builder.Append piece.Text) ∷ call.Builder builder.ToString ∷ []
 members lib.System = call.Out ∷ []
-members lib.PrintStream = call.PrintEnd ∷ call.Print piece.Int ∷ call.Print piece.Long ∷ call.Print piece.Char ∷ call.Print piece.Bool ∷ call.Print piece.Text ∷ []
+members lib.PrintStream = call.PrintEnd ∷ call.Print piece.Int ∷ call.Print piece.Long ∷ call.Print piece.Char ∷ call.Print piece.Bool
+    ∷ call.Print piece.Text ∷ []
 members lib.Runnable = call.Run Source ∷ call.Run Passing ∷ []
 members lib.Thread =
-    call.Thread (thread.Init Source) ∷ call.Thread (thread.Init Passing) ∷ call.Thread thread.Start ∷ call.Thread thread.Join ∷ call.Thread thread.Yield ∷ []
+    call.Thread (thread.Init Source) ∷ call.Thread (thread.Init Passing) ∷ call.Thread thread.Start ∷ call.Thread thread.Join
+    ∷ call.Thread thread.Yield ∷ []
 members lib.PrivilegedAction = call.RunAction Source ∷ call.RunAction Passing ∷ []
 members lib.AccessController =
     call.Controller controller.Check ∷ call.Controller controller.Snapshot

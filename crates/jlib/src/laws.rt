@@ -25,6 +25,8 @@ pub fn class_laws()
 /// The laws of members. What is found stands in the named class, has the name and the descriptor and is the side's, and each
 /// member of the side is found by these.
 pub fn call_laws()
-    ensures found { (side : Side) (class name desc : List ℕ) (m : LibCall) → member_named side class name desc ≡ Some m → IsMember side class name desc m }
-    ensures only { (side : Side) (m : LibCall) → call_stands_on side m ≡ true → member_named side (name_of (owner m)) (name_of_call m) (desc_of m) ≡ Some m }
+    ensures found { (side : Side) (class name desc : List ℕ) (m : LibCall) → member_named side class name desc ≡ Some m
+        → IsMember side class name desc m }
+    ensures only { (side : Side) (m : LibCall) → call_stands_on side m ≡ true
+        → member_named side (name_of (owner m)) (name_of_call m) (desc_of m) ≡ Some m }
 {}

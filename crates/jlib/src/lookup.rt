@@ -211,7 +211,7 @@ fn is_named(class: LibClass, side: Side, name: &[u8]) -> bool
 
 /// The class of a side's library that has this name, with `/` between packages (JVMS 4.2.1); None exactly where the side has
 /// none.
-#[tactic(auto, using(crate::proofs::NamePrefixes::none_named, crate::proofs::ClassPlaces::none_else, crate::proofs::ClassPlaces::this_one, crate::proofs::ClassPlaces::not_this))]
+#[tactic(auto, using(crate::proofs::NamePrefixes::none_named, crate::proofs::ClassPlaces::none_else, crate::proofs::ClassPlaces::this_one, crate::proofs::ClassPlaces::not_this,),)]
 pub fn class(side: Side, name: &[u8]) -> Option<LibClass>
     ensures { result ≡ LibraryClasses.class_named side name.now }
 {

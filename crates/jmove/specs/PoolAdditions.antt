@@ -72,7 +72,8 @@ security_type Check = codes "(Ljava/security/Permission;Lsps/Ctx;)V"
 security_type Snapshot = codes "(Lsps/Ctx;)Ljava/security/AccessControlContext;"
 security_type Privileged = codes "(Ljava/security/PrivilegedAction;I)Ljava/lang/Object;"
 security_type PrivilegedWith = codes "(Ljava/security/PrivilegedAction;Ljava/security/AccessControlContext;I)Ljava/lang/Object;"
-security_type PrivilegedLimited = codes "(Ljava/security/PrivilegedAction;Ljava/security/AccessControlContext;[Ljava/security/Permission;Lsps/Ctx;I)Ljava/lang/Object;"
+security_type PrivilegedLimited =
+    codes "(Ljava/security/PrivilegedAction;Ljava/security/AccessControlContext;[Ljava/security/Permission;Lsps/Ctx;I)Ljava/lang/Object;"
 
 unfoldable pub with_security : Security → Adding ℕ
 with_security m = with_class (codes "sps/Rt") >> λ c. with_member (security_name m) (security_type m) >> λ b. with_entry (entries.Method c b)
@@ -159,7 +160,8 @@ with_frames = elim [ [] ↦ giving 0 | f ∷ fs ↦ with_class (codes "sps/Ctx")
 
 -- what a body calls first, then what its instructions call, then what its frames name
 unfoldable pub with_body : List Expand → List FullFrame → Adding Named
-with_body ks fs = with_security Enter >> λ enter. with_expansions ks >> λ js. with_frames fs >> λ context. giving (record { enter = enter; kinds = js; context = context })
+with_body ks fs = with_security Enter >> λ enter. with_expansions ks >> λ js. with_frames fs
+    >> λ context. giving (record { enter = enter; kinds = js; context = context })
 
 -- ---- what a call did
 

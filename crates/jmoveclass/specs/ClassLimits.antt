@@ -46,7 +46,8 @@ pool_limit count = if nat_lt 0xffff count then Some (record { method = None; kin
 
 -- the methods in their order, and the pool last
 unfoldable pub class_limit : Program → ℕ → ClassParts → Option Limit
-class_limit p domain c = or_else (first_along (λ j m. at_method j (method_limit p c m)) 0 c.methods) (pool_limit (length (moved_class p domain c).pool))
+class_limit p domain c = or_else (first_along (λ j m. at_method j (method_limit p c m)) 0 c.methods)
+    (pool_limit (length (moved_class p domain c).pool))
 
 -- an error says which limit is broken first; want of memory says nothing
 abbrev pub ClassErrorIs : Option Limit → ClassError → Type 0

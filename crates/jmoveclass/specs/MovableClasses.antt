@@ -57,5 +57,6 @@ pub record IsCode (c : ClassParts) (m : MemberInfo) (b : CodeBody) : Type 0 wher
 
 -- the name and the code of an attribute that is code
 abbrev pub named_body : Attribute → Option (ℕ × CodeBody)
-named_body (Code name stack locals ops handlers others) = Some (name, record { max_stack = stack; max_locals = locals; ops = ops; handlers = handlers; attributes = others })
+named_body (Code name stack locals ops handlers others) = Some
+    (name, record { max_stack = stack; max_locals = locals; ops = ops; handlers = handlers; attributes = others })
 named_body _ = None

@@ -79,7 +79,8 @@ kept_alone pool = elim [ Raw name bytes ↦ if method_keeps pool (Raw name bytes
 -- its code is moved, and of the others some are kept
 abbrev pub with_attribute : Program → ClassParts → ℕ → MemberInfo → Attribute → Adding (List Attribute)
 with_attribute p c domain m (Code name stack locals ops handlers others) =
-    with_code p c domain m name (record { max_stack = stack; max_locals = locals; ops = ops; handlers = handlers; attributes = others }) >> λ a. giving (a ∷ [])
+    with_code p c domain m name (record { max_stack = stack; max_locals = locals; ops = ops; handlers = handlers; attributes = others })
+    >> λ a. giving (a ∷ [])
 with_attribute p c domain m a = giving (kept_alone c.pool a)
 
 -- the descriptor with the context as one more parameter
@@ -92,4 +93,5 @@ moved_member m desc attributes = record { flags = m.flags; name = m.name; desc =
 
 -- a method of a domain, with or without code
 unfoldable pub with_method : Program → ClassParts → ℕ → MemberInfo → Adding (List MemberInfo)
-with_method p c domain m = with_text (new_desc c m) >> λ desc. with_each (with_attribute p c domain m) m.attributes >> λ attributes. giving (moved_member m desc attributes ∷ [])
+with_method p c domain m = with_text (new_desc c m) >> λ desc. with_each (with_attribute p c domain m) m.attributes
+    >> λ attributes. giving (moved_member m desc attributes ∷ [])

@@ -87,7 +87,8 @@ fn method_limit(
 #[tactic(auto, unfolding(jground::specs::jbase::FirstFaults::first_along))]
 pub fn methods_limit(alloc: Global, c: &Moving<'_>) -> Result<Option<Limit>, AllocError>
     requires { IsMoving c.now }
-    ensures { IfOk result (λ limit. limit ≡ first_along (λ j m. at_method j (ClassLimits.method_limit c.now.program.now c.now.class.now m)) 0 c.now.class.now.methods) }
+    ensures { IfOk result
+        (λ limit. limit ≡ first_along (λ j m. at_method j (ClassLimits.method_limit c.now.program.now c.now.class.now m)) 0 c.now.class.now.methods) }
 {
     for (j, m) in c.class.methods.as_slice().iter().enumerate() {
         let place = j as u32;

@@ -249,7 +249,8 @@ fn put_attributes(
     requires params { params.now ≡ EntryLocals.params_of c.now.class.now m.now }
     requires method { IsIn m.now c.now.class.now.methods }
     requires limits { HasNoLimit c.now.program.now c.now.class.now m.now }
-    ensures { Puts (λ x. x) (with_each (with_attribute c.now.program.now c.now.class.now c.now.domain m.now) m.now.attributes) result pool.old pool.new }
+    ensures { Puts (λ x. x)
+        (with_each (with_attribute c.now.program.now c.now.class.now c.now.domain m.now) m.now.attributes) result pool.old pool.new }
 {
     let mut moved = Seq::new(alloc);
     for one in m.attributes.as_slice() {

@@ -27,7 +27,8 @@ fn put_methods(
 ) -> Result<Seq<MemberInfo>, MoveError>
     requires moving { IsMoving c.now }
     requires limits { HasNone c.now.program.now c.now.class.now }
-    ensures { Puts (λ x. x) (with_each (with_method c.now.program.now c.now.class.now c.now.domain) c.now.class.now.methods) result pool.old pool.new }
+    ensures { Puts (λ x. x)
+        (with_each (with_method c.now.program.now c.now.class.now c.now.domain) c.now.class.now.methods) result pool.old pool.new }
 {
     let mut moved = Seq::new(alloc);
     for m in c.class.methods.as_slice() {

@@ -40,7 +40,8 @@ impl Model for RewrittenProgram {
 /// class, in each its methods in their order, and its pool last. Where none is broken the moved program links and is well typed.
 pub fn rewrite(alloc: Global, p: &CheckedProgram) -> Result<RewrittenProgram, RewriteError>
     requires side { p.now.side ≡ sides.Source }
-    ensures moved { MatchResult result (λ q. (RewrittenPrograms.limits p.now ≡ None) × (q ≡ RewrittenPrograms.moved p.now)) (RewriteErrorIs (RewrittenPrograms.limits p.now)) }
+    ensures moved { MatchResult result (λ q. (RewrittenPrograms.limits p.now ≡ None) × (q ≡ RewrittenPrograms.moved p.now))
+        (RewriteErrorIs (RewrittenPrograms.limits p.now)) }
     ensures links { RewrittenPrograms.limits p.now ≡ None → Links (RewrittenPrograms.moved p.now) }
     ensures typed { RewrittenPrograms.limits p.now ≡ None → WellTyped (RewrittenPrograms.moved p.now) }
     // The `main` of each class is the same method.

@@ -1,5 +1,5 @@
 //! What a run reads and writes, as rooms: files, directories and sinks (jio), the lines that tell a run's events (jtrace), and their counts
-//! (jtally). It stands on jground alone: no permission and no domain is known here.
+//! (jtally). It stands on permissions (jperm), which its lines name; no domain's grants are known here.
 //!
 //! Each room is a module, whose head says what it holds and what is proved of it; its definitions lie in `specs/` under its name, and so does
 //! its part of `proofs/`.

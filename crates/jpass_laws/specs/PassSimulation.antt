@@ -74,7 +74,8 @@ pub record PassesUnstuck (has : ℕ → Permission → Bool) (p q : Program) (pl
 
 -- of two programs of which a machine knows that the second is the first one moved
 abbrev pub PassTheorem : Type 0
-PassTheorem = (has : ℕ → Permission → Bool) (p q : Program) (plan : Plan) (name : List ℕ) → Moves p q → main_of p name ≡ Some plan.main → PassesUnstuck has p q plan
+PassTheorem = (has : ℕ → Permission → Bool) (p q : Program) (plan : Plan) (name : List ℕ) → Moves p q → main_of p name ≡ Some plan.main
+    → PassesUnstuck has p q plan
 
 -- of each program that links, is well typed and breaks no limit, and its moved program
 abbrev pub MovedPasses : Type 0

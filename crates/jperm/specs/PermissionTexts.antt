@@ -21,7 +21,8 @@ text_of_class classes.File = codes "java.io.FilePermission"
 
 -- the class that has a name
 abbrev pub class_named : List ℕ → Option PermClass
-class_named name = find (λ class. bytes_eq name (text_of_class class)) (classes.All ∷ classes.Runtime ∷ classes.Security ∷ classes.Property ∷ classes.File ∷ [])
+class_named name = find (λ class. bytes_eq name (text_of_class class))
+    (classes.All ∷ classes.Runtime ∷ classes.Security ∷ classes.Property ∷ classes.File ∷ [])
 
 -- the name of a permission's class
 abbrev pub class_name : Permission → List ℕ

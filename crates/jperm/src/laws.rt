@@ -26,7 +26,8 @@ pub fn covers_laws()
     ensures more { (list more : List Permission) (asked : Permission) → ((q : Permission) → Contains list q → Contains more q)
         → covers list asked ≡ true → covers more asked ≡ true }
     ensures behind { (list more : List Permission) (asked : Permission) → covers list asked ≡ true → covers (list ++ more) asked ≡ true }
-    ensures united { (list more : List Permission) (asked : Permission) → united (list ++ more) asked ≡ bit_or (united list asked) (united more asked) }
+    ensures united { (list more : List Permission) (asked : Permission)
+        → united (list ++ more) asked ≡ bit_or (united list asked) (united more asked) }
     ensures others { (q asked : Permission) (list : List Permission) → (stands_alone q && implies q asked) ≡ false → gives q asked ≡ 0
         → covers (q ∷ list) asked ≡ covers list asked }
 {}

@@ -162,7 +162,8 @@ fn filled(name: Option<&Units>) -> Result<&Units, PermError>
 
 /// The set of actions of a kind that a text gives, where there is a text.
 fn wanted(kind: &[Action], actions: Option<&Units>) -> Result<Actions, PermError>
-    ensures { MatchResult result (λ set. wanted kind.now (option_copied actions.entry) ≡ Ok set.0) (λ e. wanted kind.now (option_copied actions.entry) ≡ Err e) }
+    ensures { MatchResult result (λ set. wanted kind.now (option_copied actions.entry) ≡ Ok set.0)
+        (λ e. wanted kind.now (option_copied actions.entry) ≡ Err e) }
 {
     match actions {
         Some(text) => actions_of(kind, text.as_slice()).ok_or(PermError::BadActions),

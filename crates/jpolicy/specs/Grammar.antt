@@ -42,7 +42,8 @@ Worded ts units = (t : Placed) × (ts ≡ t ∷ []) × (t.token ≡ Word units)
 
 -- a string without `${{`
 abbrev pub Texted : Properties → Grammar (Option (List ℕ))
-Texted properties ts value = (t : Placed) × (units : List ℕ) × (ts ≡ t ∷ []) × (t.token ≡ Text units) × (expands_itself units ≡ false) × (value ≡ expanded properties units)
+Texted properties ts value = (t : Placed) × (units : List ℕ) × (ts ≡ t ∷ []) × (t.token ≡ Text units) × (expands_itself units ≡ false)
+    × (value ≡ expanded properties units)
 
 -- one construct behind another
 infixr 12 ◌▹◌

@@ -119,7 +119,8 @@ is_absent = elim [ Absent ↦ true | _ ↦ false ]
 abbrev pub behind_name : Properties → Stated → List Placed → Answer (Stated × Stated)
 behind_name properties name ts =
     if next (is_mark (byte ",")) ts then behind_comma properties (behind ts) else
-    (if is_absent name && next (is_keyword keywords.SignedBy) ts then (signer_at properties ts >>= λ s. Ok ((Absent, s.0), s.1)) else Ok ((Absent, Absent), ts))
+    (if is_absent name && next (is_keyword keywords.SignedBy) ts then (signer_at properties ts >>= λ s. Ok ((Absent, s.0), s.1)) else Ok
+    ((Absent, Absent), ts))
 
 -- a string as an entry holds it, or none where a property is missing
 abbrev pub kept : Stated → Option (Option (List ℕ))
@@ -163,23 +164,30 @@ names_principal token = is_text token || is_mark (byte "*") token
 abbrev pub principal_at : Properties → List Placed → Answer Bool
 principal_at properties ts =
     if next (elim [ Word units ↦ true | _ ↦ false ]) ts then principal_name_at properties (behind ts) else
-    (if next (is_mark (byte "*")) ts && next names_principal (behind ts) then principal_name_at properties (behind ts) else principal_name_at properties ts)
+    (if next (is_mark (byte "*")) ts && next names_principal (behind ts) then principal_name_at properties
+    (behind ts) else principal_name_at properties ts)
 
 abbrev pub with_code_base : Clauses → Option (List ℕ) → Clauses
-with_code_base cs text = record { code_base = given text; signers = cs.signers; has_principals = cs.has_principals; lacks_principal = cs.lacks_principal }
+with_code_base cs text =
+    record { code_base = given text; signers = cs.signers; has_principals = cs.has_principals; lacks_principal = cs.lacks_principal }
 
 abbrev pub with_signers : Clauses → Option (List ℕ) → Clauses
-with_signers cs text = record { code_base = cs.code_base; signers = given text; has_principals = cs.has_principals; lacks_principal = cs.lacks_principal }
+with_signers cs text =
+    record { code_base = cs.code_base; signers = given text; has_principals = cs.has_principals; lacks_principal = cs.lacks_principal }
 
 abbrev pub with_principal : Clauses → Bool → Clauses
-with_principal cs lacks = record { code_base = cs.code_base; signers = cs.signers; has_principals = true; lacks_principal = cs.lacks_principal || lacks }
+with_principal cs lacks =
+    record { code_base = cs.code_base; signers = cs.signers; has_principals = true; lacks_principal = cs.lacks_principal || lacks }
 
 -- a clause behind others: `codeBase` and `signedBy` once each
 unfoldable pub clause_at : Properties → Clauses → List Placed → Answer Clauses
 clause_at properties cs ts =
-    if next (is_keyword keywords.CodeBase) ts && is_absent cs.code_base then (text_at properties (behind ts) >>= λ t. Ok (with_code_base cs t.0, t.1)) else
-    (if next (is_keyword keywords.SignedBy) ts && is_absent cs.signers then (text_at properties (behind ts) >>= λ t. Ok (with_signers cs t.0, t.1)) else
-    (if next (is_keyword keywords.Principal) ts then (principal_at properties (behind ts) >>= λ p. Ok (with_principal cs p.0, p.1)) else not_allowed ts))
+    if next (is_keyword keywords.CodeBase) ts && is_absent cs.code_base then
+    (text_at properties (behind ts) >>= λ t. Ok (with_code_base cs t.0, t.1)) else
+    (if next (is_keyword keywords.SignedBy) ts && is_absent cs.signers then
+    (text_at properties (behind ts) >>= λ t. Ok (with_signers cs t.0, t.1)) else
+    (if next (is_keyword keywords.Principal) ts then
+    (principal_at properties (behind ts) >>= λ p. Ok (with_principal cs p.0, p.1)) else not_allowed ts))
 
 abbrev pub one_clause : Properties → Clauses → List Placed → Answer Clauses
 one_clause properties cs ts = clause_at properties cs ts >>= λ c. Ok (c.0, if next (is_mark (byte ",")) c.1 then behind c.1 else c.1)
@@ -199,13 +207,15 @@ grant_with _ _ asks_more entries = None
 
 -- the grant of its clauses and entries, or none where a property is missing in a clause
 abbrev pub grant_of : Clauses → List GrantEntry → Option Grant
-grant_of cs entries = grant_with (kept cs.code_base) (is_missing cs.signers || cs.lacks_principal) (not (is_absent cs.signers) || cs.has_principals) entries
+grant_of cs entries = grant_with (kept cs.code_base) (is_missing cs.signers || cs.lacks_principal)
+    (not (is_absent cs.signers) || cs.has_principals) entries
 
 -- `grant`, clauses, `{`, entries, `}`, `;`
 unfoldable pub grant_at : Properties → List Placed → Answer (Option Grant)
 grant_at properties ts =
     keyword_at keywords.Grant ts >>= λ k. clauses_at properties k.1 >>= λ cs. mark_at (byte "{") cs.1 >>= λ open_brace.
-    entries_at properties open_brace.1 >>= λ es. mark_at (byte "}") es.1 >>= λ close_brace. mark_at (byte ";") close_brace.1 >>= λ end. Ok (grant_of cs.0 es.0, end.1)
+    entries_at properties open_brace.1 >>= λ es. mark_at (byte "}") es.1 >>= λ close_brace. mark_at (byte ";") close_brace.1
+    >>= λ end. Ok (grant_of cs.0 es.0, end.1)
 
 -- ---- the policy
 

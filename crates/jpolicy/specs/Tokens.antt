@@ -36,7 +36,8 @@ closed = elim [ Some rest ↦ gap rest | None ↦ bad ]
 -- a comment, behind its first slash
 unfoldable pub comment_at : List ℕ → Lexeme
 comment_at [] = bad
-comment_at (c ∷ cs) = if c == byte "/" then gap (drop (position_or_len ends_line cs) cs) else (if c == byte "*" then closed (behind_comment cs) else bad)
+comment_at (c ∷ cs) = if c == byte "/" then gap (drop (position_or_len ends_line cs) cs) else
+    (if c == byte "*" then closed (behind_comment cs) else bad)
 
 -- all characters of a word, in UTF-16 units
 abbrev pub word_at : List ℕ → Lexeme

@@ -58,7 +58,8 @@ Within t (instr.Lookup c) = AreThere t.keys c.first c.count
 Within t i = Unit {0}
 
 -- An instruction by number, in the place of one of a method's; `more` says whether there is one behind it.
-pub record Stands (p : Program) (types : List TypeRef) (t : Tables) (class : ℕ) (ops : List Placed) (more : Bool) (one : Placed) (i : Instr) : Type 0 where
+pub record Stands (p : Program) (types : List TypeRef) (t : Tables) (class : ℕ) (ops : List Placed) (more : Bool) (one : Placed)
+    (i : Instr) : Type 0 where
   pub means : meant p t class i ≡ followed more (instruction p (pool_at p class) ops one)
   pub within : Within t i
   pub exact : Exact p types t class i
@@ -66,7 +67,8 @@ pub record Stands (p : Program) (types : List TypeRef) (t : Tables) (class : ℕ
 -- ---- those of a method
 
 -- From a number on, so many stand in the places of a method's.
-pub record AreLaid (p : Program) (types : List TypeRef) (t : Tables) (class : ℕ) (ops : List Placed) (code : List Instr) (first count : ℕ) : Type 0 where
+pub record AreLaid (p : Program) (types : List TypeRef) (t : Tables) (class : ℕ) (ops : List Placed) (code : List Instr)
+    (first count : ℕ) : Type 0 where
   pub there : first + count ≤ length code
   pub each : (j : ℕ) (one : Placed) (i : Instr) → j < count → slice_get ops j ≡ Some one → slice_get code (first + j) ≡ Some i
       → Stands p types t class ops (nat_lt (j + 1) (length ops)) one i

@@ -115,7 +115,8 @@ pub record UserCalled (p : Program) (pool : List Entry) (types : List TypeRef) (
   pub calls : CallsUser p types call params k
 
 -- It means a method of the library.
-pub record LibraryCalled (p : Program) (pool : List Entry) (types : List TypeRef) (way : InvokeKind) (i : ℕ) (params : Span) (lib : LibCall) : Type 0 where
+pub record LibraryCalled (p : Program) (pool : List Entry) (types : List TypeRef) (way : InvokeKind) (i : ℕ) (params : Span)
+    (lib : LibCall) : Type 0 where
   pub call : CallMeaning
   pub means : meant p pool (call_form way i) ≡ Some (Call way call)
   pub calls : CallsLibrary p types call params lib

@@ -30,7 +30,8 @@ fn by_array(
     form: ArrayForm,
 ) -> Result<Instr, AllocError>
     requires { IsKnown known.now }
-    ensures means { IfOk result (λ i. meant known.now.p.now tables.new class i ≡ ProofNames.array known.now.p.now (pool_at known.now.p.now class) form) }
+    ensures means { IfOk result
+        (λ i. meant known.now.p.now tables.new class i ≡ ProofNames.array known.now.p.now (pool_at known.now.p.now class) form) }
     ensures within { IfOk result (Within tables.new) }
     ensures exact { IfOk result (Exact known.now.p.now known.now.uses.now.types tables.new class) }
     ensures grown { IfOk result (λ i. Grown tables.old tables.new) }
@@ -56,7 +57,8 @@ fn instr_of(
 ) -> Result<Instr, AllocError>
     requires known { IsKnown known.now }
     requires code { AreCode ops.now }
-    ensures means { IfOk result (λ i. meant known.now.p.now tables.new class i ≡ instruction known.now.p.now (pool_at known.now.p.now class) ops.now one.now) }
+    ensures means { IfOk result
+        (λ i. meant known.now.p.now tables.new class i ≡ instruction known.now.p.now (pool_at known.now.p.now class) ops.now one.now) }
     ensures within { IfOk result (Within tables.new) }
     ensures exact { IfOk result (Exact known.now.p.now known.now.uses.now.types tables.new class) }
     ensures grown { IfOk result (λ i. Grown tables.old tables.new) }
@@ -87,7 +89,7 @@ fn goes_on(i: Instr) -> bool
 }
 
 /// The instruction, unless it would go on and there is none behind it.
-#[tactic(auto, using(crate::proofs::FallThrough::more_stays, crate::proofs::FallThrough::last_stops, crate::proofs::FallThrough::last_stays), unfolding(crate::specs::DecodedInstructions::meant))]
+#[tactic(auto, using(crate::proofs::FallThrough::more_stays, crate::proofs::FallThrough::last_stops, crate::proofs::FallThrough::last_stays), unfolding(crate::specs::DecodedInstructions::meant),)]
 fn unless_last(i: Instr, more: bool) -> Instr
     ensures means { (p : Program) (t : Tables) (class : ℕ) → meant p t class result ≡ followed more (meant p t class i) }
     ensures within { (t : Tables) → Within t i → Within t result }
@@ -113,7 +115,8 @@ pub(crate) fn put_ops(
 ) -> Result<(), AllocError>
     requires known { IsKnown known.now }
     requires code { AreCode ops.now }
-    ensures laid { OnOk result (AreLaid known.now.p.now known.now.uses.now.types tables.new class ops.now code.new (length code.old) (length ops.now)) }
+    ensures laid { OnOk result
+        (AreLaid known.now.p.now known.now.uses.now.types tables.new class ops.now code.new (length code.old) (length ops.now)) }
     ensures count { OnOk result (length code.new ≡ length code.old + length ops.now) }
     ensures behind { OnOk result (Grows code.old code.new) }
     ensures grown { OnOk result (Grown tables.old tables.new) }

@@ -48,7 +48,8 @@ fn lookup(tables: &mut Tables, keys: &[Key], other: u32) -> Result<Lookup, Alloc
 
 #[tactic(auto, unfolding(crate::specs::DecodedInstructions::meant))]
 fn by_keys(tables: &mut Tables, keys: &Keys, other: u32) -> Result<Instr, AllocError>
-    ensures means { IfOk result (λ i. (p : Program) (class : ℕ) → meant p tables.new class i ≡ Some (IndexedInstructions.Switch (keys_of keys.now) other)) }
+    ensures means { IfOk result
+        (λ i. (p : Program) (class : ℕ) → meant p tables.new class i ≡ Some (IndexedInstructions.Switch (keys_of keys.now) other)) }
     ensures within { IfOk result (Within tables.new) }
     ensures exact { IfOk result (λ i. (p : Program) (types : List Ref) (class : ℕ) → Exact p types tables.new class i) }
     ensures grown { IfOk result (λ i. Grown tables.old tables.new) }
@@ -93,7 +94,8 @@ pub(crate) fn flow_instr(
     flow: &Flow<&Switch>,
 ) -> Result<Instr, AllocError>
     requires { AreCode ops.now }
-    ensures means { IfOk result (λ i. (p : Program) (class : ℕ) → meant p tables.new class i ≡ IndexedInstructions.flow ops.now at (InstructionForms.seen_flow flow.now)) }
+    ensures means { IfOk result
+        (λ i. (p : Program) (class : ℕ) → meant p tables.new class i ≡ IndexedInstructions.flow ops.now at (InstructionForms.seen_flow flow.now)) }
     ensures within { IfOk result (Within tables.new) }
     ensures exact { IfOk result (λ i. (p : Program) (types : List Ref) (class : ℕ) → Exact p types tables.new class i) }
     ensures grown { IfOk result (λ i. Grown tables.old tables.new) }

@@ -50,7 +50,8 @@ fn constant_of(known: &ProgramInfo<'_>, class: u32, form: PoolForm) -> Option<Co
 }
 
 fn push_of(tables: &mut Tables, constant: Constant) -> Result<Push, AllocError>
-    ensures means { IfOk result (λ f. (p : Program) (pool : List Entry) → push_meant p pool tables.new f ≡ Some (pushed p pool (pushed_named pool constant))) }
+    ensures means { IfOk result
+        (λ f. (p : Program) (pool : List Entry) → push_meant p pool tables.new f ≡ Some (pushed p pool (pushed_named pool constant))) }
     ensures within { IfOk result (PushWithin tables.new) }
     ensures grown { IfOk result (λ f. Grown tables.old tables.new) }
 {
@@ -72,7 +73,8 @@ fn constant(
     form: PoolForm,
 ) -> Result<Instr, AllocError>
     requires known { IsKnown known.now }
-    requires pushes { only_push (InstructionMeanings.meant known.now.p.now (pool_at known.now.p.now class) form) ≡ InstructionMeanings.meant known.now.p.now (pool_at known.now.p.now class) form }
+    requires pushes { only_push (InstructionMeanings.meant known.now.p.now (pool_at known.now.p.now class) form)
+        ≡ InstructionMeanings.meant known.now.p.now (pool_at known.now.p.now class) form }
     ensures means { IfOk result (λ i. meant known.now.p.now tables.new class i ≡ by_pool known.now.p.now (pool_at known.now.p.now class) form) }
     ensures within { IfOk result (Within tables.new) }
     ensures exact { IfOk result (Exact known.now.p.now known.now.uses.now.types tables.new class) }
@@ -88,7 +90,8 @@ fn constant(
 // ---- fields
 
 fn field_in(found: Option<Use>) -> Option<FieldUse>
-    ensures { (p : Program) (pool : List Entry) (types : List Ref) → option_map (field_named p) result ≡ only_field (option_map (meaning_of p pool types) found) }
+    ensures { (p : Program) (pool : List Entry) (types : List Ref)
+        → option_map (field_named p) result ≡ only_field (option_map (meaning_of p pool types) found) }
 {
     match found {
         Some(Use::Field(_, used)) => Some(used),
@@ -99,7 +102,8 @@ fn field_in(found: Option<Use>) -> Option<FieldUse>
 /// The field that an instruction of a class names.
 fn field_used(known: &ProgramInfo<'_>, class: u32, op: FieldOp, pool: u16) -> Option<FieldUse>
     requires { IsKnown known.now }
-    ensures { option_map (field_named known.now.p.now) result ≡ only_field (InstructionMeanings.meant known.now.p.now (pool_at known.now.p.now class) (forms.Field op pool)) }
+    ensures { option_map (field_named known.now.p.now) result
+        ≡ only_field (InstructionMeanings.meant known.now.p.now (pool_at known.now.p.now class) (forms.Field op pool)) }
 {
     let found = known.uses.use_at(class, PoolForm::Field(op, pool));
     field_in(found)
@@ -140,7 +144,8 @@ fn owner_of(class: ClassRef) -> u32
 #[tactic(auto, unfolding(crate::specs::DecodedInstructions::meant))]
 fn field_of(known: &ProgramInfo<'_>, class: u32, op: FieldOp, pool: u16) -> Instr
     requires { IsKnown known.now }
-    ensures means { (t : Tables) → meant known.now.p.now t class result ≡ by_pool known.now.p.now (pool_at known.now.p.now class) (forms.Field op pool) }
+    ensures means { (t : Tables) → meant known.now.p.now t class result
+        ≡ by_pool known.now.p.now (pool_at known.now.p.now class) (forms.Field op pool) }
     ensures within { (t : Tables) → Within t result }
     ensures exact { (t : Tables) → Exact known.now.p.now known.now.uses.now.types t class result }
 {
@@ -229,7 +234,8 @@ fn call_of(known: &ProgramInfo<'_>, class: u32, form: PoolForm, pool: u16) -> In
 // ---- classes
 
 fn made_in(found: Option<Use>) -> Option<ClassRef>
-    ensures { (p : Program) (pool : List Entry) (types : List Ref) → option_map (class_named p) result ≡ only_made (option_map (meaning_of p pool types) found) }
+    ensures { (p : Program) (pool : List Entry) (types : List Ref)
+        → option_map (class_named p) result ≡ only_made (option_map (meaning_of p pool types) found) }
 {
     match found {
         Some(Use::Make(class)) => Some(class),
@@ -238,7 +244,8 @@ fn made_in(found: Option<Use>) -> Option<ClassRef>
 }
 
 fn cast_in(found: Option<Use>) -> Option<TypeRef>
-    ensures { (p : Program) (pool : List Entry) (types : List Ref) → option_map (named p) result ≡ only_cast (option_map (meaning_of p pool types) found) }
+    ensures { (p : Program) (pool : List Entry) (types : List Ref)
+        → option_map (named p) result ≡ only_cast (option_map (meaning_of p pool types) found) }
 {
     match found {
         Some(Use::Cast(_, t)) => Some(t),
@@ -247,7 +254,8 @@ fn cast_in(found: Option<Use>) -> Option<TypeRef>
 }
 
 fn array_in(found: Option<Use>) -> Option<TypeRef>
-    ensures { (p : Program) (pool : List Entry) (types : List Ref) → option_map (named p) result ≡ only_array (option_map (meaning_of p pool types) found) }
+    ensures { (p : Program) (pool : List Entry) (types : List Ref)
+        → option_map (named p) result ≡ only_array (option_map (meaning_of p pool types) found) }
 {
     match found {
         Some(Use::MakeArray(t)) => Some(t),
@@ -258,7 +266,8 @@ fn array_in(found: Option<Use>) -> Option<TypeRef>
 /// The class of which the instruction of a class makes an object.
 fn made_used(known: &ProgramInfo<'_>, class: u32, pool: u16) -> Option<ClassRef>
     requires { IsKnown known.now }
-    ensures { option_map (class_named known.now.p.now) result ≡ only_made (InstructionMeanings.meant known.now.p.now (pool_at known.now.p.now class) (forms.New pool)) }
+    ensures { option_map (class_named known.now.p.now) result
+        ≡ only_made (InstructionMeanings.meant known.now.p.now (pool_at known.now.p.now class) (forms.New pool)) }
 {
     let found = known.uses.use_at(class, PoolForm::New(pool));
     made_in(found)
@@ -267,7 +276,8 @@ fn made_used(known: &ProgramInfo<'_>, class: u32, pool: u16) -> Option<ClassRef>
 /// The type for which the instruction of a class tests.
 fn cast_used(known: &ProgramInfo<'_>, class: u32, op: CastOp, pool: u16) -> Option<TypeRef>
     requires { IsKnown known.now }
-    ensures { option_map (named known.now.p.now) result ≡ only_cast (InstructionMeanings.meant known.now.p.now (pool_at known.now.p.now class) (forms.Cast op pool)) }
+    ensures { option_map (named known.now.p.now) result ≡ only_cast
+        (InstructionMeanings.meant known.now.p.now (pool_at known.now.p.now class) (forms.Cast op pool)) }
 {
     let found = known.uses.use_at(class, PoolForm::Cast(op, pool));
     cast_in(found)
@@ -283,7 +293,7 @@ fn array_used(known: &ProgramInfo<'_>, class: u32, pool: u16) -> Option<TypeRef>
 }
 
 /// What is by number an instruction that makes an object of the class at an index.
-#[tactic(auto, using(crate::proofs::EntryMeanings::made_back, crate::proofs::EntryMeanings::made_nothing), unfolding(crate::specs::DecodedInstructions::meant))]
+#[tactic(auto, using(crate::proofs::EntryMeanings::made_back, crate::proofs::EntryMeanings::made_nothing), unfolding(crate::specs::DecodedInstructions::meant),)]
 fn make_of(known: &ProgramInfo<'_>, class: u32, pool: u16) -> Instr
     requires { IsKnown known.now }
     ensures means { (t : Tables) → meant known.now.p.now t class result ≡ by_pool known.now.p.now (pool_at known.now.p.now class) (forms.New pool) }
@@ -301,7 +311,8 @@ fn make_of(known: &ProgramInfo<'_>, class: u32, pool: u16) -> Instr
 #[tactic(auto, using(crate::proofs::EntryMeanings::cast_back), unfolding(crate::specs::DecodedInstructions::meant))]
 fn cast_of(known: &ProgramInfo<'_>, class: u32, op: CastOp, pool: u16) -> Instr
     requires { IsKnown known.now }
-    ensures means { (t : Tables) → meant known.now.p.now t class result ≡ by_pool known.now.p.now (pool_at known.now.p.now class) (forms.Cast op pool) }
+    ensures means { (t : Tables) → meant known.now.p.now t class result
+        ≡ by_pool known.now.p.now (pool_at known.now.p.now class) (forms.Cast op pool) }
     ensures within { (t : Tables) → Within t result }
     ensures exact { (t : Tables) → Exact known.now.p.now known.now.uses.now.types t class result }
 {
@@ -333,7 +344,8 @@ pub(crate) fn array_of(
     pool: u16,
 ) -> Result<Instr, AllocError>
     requires { IsKnown known.now }
-    ensures means { IfOk result (λ i. meant known.now.p.now tables.new class i ≡ option_map Used (array_meant known.now.p.now (pool_at known.now.p.now class) pool)) }
+    ensures means { IfOk result
+        (λ i. meant known.now.p.now tables.new class i ≡ option_map Used (array_meant known.now.p.now (pool_at known.now.p.now class) pool)) }
     ensures within { IfOk result (Within tables.new) }
     ensures exact { IfOk result (Exact known.now.p.now known.now.uses.now.types tables.new class) }
     ensures grown { IfOk result (λ i. Grown tables.old tables.new) }

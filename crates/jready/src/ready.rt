@@ -116,7 +116,8 @@ fn row_at(rows: &[MethodRow], k: u32) -> Option<MethodRow>
 /// The number of a method, if a row behind the first one of its class has it.
 fn number_in(firsts: &[u32], rows: &[MethodRow], m: MethodId) -> Option<u32>
     ensures found { IfSome result (λ k. IsNumber rows.now k m) }
-    ensures none { result ≡ None → (first : ℕ) → slice_get firsts.now m.class ≡ Some first → first + m.method < 2 ^ 32 → IsNumber rows.now (first + m.method) m → ⊥ }
+    ensures none { result ≡ None → (first : ℕ) → slice_get firsts.now m.class ≡ Some first → first + m.method < 2 ^ 32
+        → IsNumber rows.now (first + m.method) m → ⊥ }
 {
     let Some(first) = firsts.get(m.class as usize) else {
         return None;
@@ -326,7 +327,8 @@ impl<'p> Ready<'p> {
     pub fn handlers(&self, method: &MethodRow) -> &[HandlerRow]
         requires { IsRow self.now method.now }
         ensures within { (thrown : VType) (place : ℕ) → place < method.now.count
-            → handler_at self.now.program thrown method.now.id place ≡ handled self.now.program (pool_at self.now.program method.now.id.class) thrown place result.now }
+            → handler_at self.now.program thrown method.now.id place
+            ≡ handled self.now.program (pool_at self.now.program method.now.id.class) thrown place result.now }
         ensures behind { (thrown : VType) (place : ℕ) → method.now.count ≤ place → handler_at self.now.program thrown method.now.id place ≡ None }
     {
         let rows = self.methods.handlers.as_slice();

@@ -127,7 +127,8 @@ fn put_statics(
     rows: &mut Seq<StaticRow>,
 ) -> Result<(), AllocError>
     requires { slice_get p.now.parts class ≡ Some part.now }
-    ensures { OnOk result ((before : List (Part × Info)) → AreStatics p.now before rows.old → AreStatics p.now (before ++ own_statics part.now) rows.new) }
+    ensures { OnOk result
+        ((before : List (Part × Info)) → AreStatics p.now before rows.old → AreStatics p.now (before ++ own_statics part.now) rows.new) }
 {
     let parts = part.class.parts();
     for field in parts.fields.as_slice() {

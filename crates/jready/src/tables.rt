@@ -81,7 +81,8 @@ impl Tables {
 
     /// Where some targets stand.
     pub(crate) fn put_targets(&mut self, more: &[u32]) -> Result<Span, AllocError>
-        ensures there { IfOk result (λ s. (s.first ≡ length self.old.targets) × (s.count ≡ length more.now) × (self.new.targets ≡ self.old.targets ++ more.now)) }
+        ensures there { IfOk result
+            (λ s. (s.first ≡ length self.old.targets) × (s.count ≡ length more.now) × (self.new.targets ≡ self.old.targets ++ more.now)) }
         ensures grown { IfOk result (λ k. Grown self.old self.new) }
     {
         put_all(&mut self.targets, more)

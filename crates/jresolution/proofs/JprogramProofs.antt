@@ -23,3 +23,5 @@ pub mod ClassHeights
 pub mod NameTables
 pub mod DigestTables
 pub mod NumberedWalks
+pub mod ReservedNames
+pub mod UserSubclasses

@@ -145,7 +145,8 @@ impl Kept {
     ) -> Result<u64, AllocError>
         requires { Below (length self.old) given }
         ensures given { IfOk result (λ n. n < length self.new) }
-        ensures stands { IfOk result (λ n. mark_at (things self.new) (Some n) ≡ Privileged (given_at (things self.old) given) (option_copied limits.entry)) }
+        ensures stands { IfOk result
+            (λ n. mark_at (things self.new) (Some n) ≡ Privileged (given_at (things self.old) given) (option_copied limits.entry)) }
         ensures earlier { Keeps self.old self.new }
         ensures err { OnErr result (self.new ≡ self.old) }
     {

@@ -66,7 +66,8 @@ impl Path {
         ensures within { result ≤ length marks.now }
         ensures under { self.new.under ≡ inherited }
         ensures same { marks_of self.new.frames.items ≡ take result marks.now }
-        ensures lies { (entries : List KeptEntry) → Lies entries self.old.under self.old.frames.items → Lies entries self.new.under self.new.frames.items }
+        ensures lies { (entries : List KeptEntry) → Lies entries self.old.under self.old.frames.items
+            → Lies entries self.new.under self.new.frames.items }
     {
         if !is_same(self.under, inherited) {
             self.under = inherited;

@@ -106,7 +106,8 @@ impl Table {
     /// What the mark of a privilege's number settles, where the stack that it was given has that verdict.
     fn mark_end(&self, given: Verdict, asked: &Permission, k: u64) -> Option<Verdict>
         requires { k < length self.now }
-        ensures { (h : ℕ → Permission → Bool) → given ≡ walk_given h asked.now (given_in self.now k) → result ≡ settled_mark h asked.now (mark_at (things self.now) (Some k)) }
+        ensures { (h : ℕ → Permission → Bool) → given ≡ walk_given h asked.now (given_in self.now k)
+            → result ≡ settled_mark h asked.now (mark_at (things self.now) (Some k)) }
     {
         match self.get(k) {
             KeptEntry::Privilege { limits, .. } => privilege_end(given, limits, asked),

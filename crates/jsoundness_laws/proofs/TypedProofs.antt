@@ -1,6 +1,5 @@
 pub mod Superclasses
 pub mod ArrayAccess
-pub mod LibraryNames
 pub mod EntryFrames
 pub mod CallTargets
 pub mod TypedCalls

@@ -1,6 +1,4 @@
 pub mod EntryLookup
-pub mod LibraryNames
-pub mod UserSubclasses
 pub mod FieldPlaces
 pub mod OperandObjects
 pub mod FieldInstructions

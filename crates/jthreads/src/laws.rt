@@ -10,7 +10,8 @@ pub fn thread_laws()
     ensures rising { (threads : List Thread) → IsStrictlyIncreasing (runnable_numbers threads) }
     ensures named { (threads : List Thread) (t : ℕ) → Contains (runnable_numbers threads) t → t < length threads }
     ensures only { (threads : List Thread) (t : ℕ) → Contains (runnable_numbers threads) t → is_runnable (thread_at threads t) ≡ true }
-    ensures every { (threads : List Thread) (t : ℕ) → t < length threads → is_runnable (thread_at threads t) ≡ true → Contains (runnable_numbers threads) t }
+    ensures every { (threads : List Thread) (t : ℕ) → t < length threads → is_runnable (thread_at threads t) ≡ true
+        → Contains (runnable_numbers threads) t }
     ensures unstarted { (threads : List Thread) (t : ℕ) → is_started threads t ≡ false → Contains (runnable_numbers threads) t → ⊥ }
     ensures nobody { (threads : List Thread) (t n : ℕ) (x : Thread) → slice_get (table_after_end t threads) n ≡ Some x → x.waits_for ≡ Some t → ⊥ }
     ensures again { (threads : List Thread) (t n : ℕ) → Awaits threads t n → Contains (runnable_numbers (table_after_end t threads)) n }

@@ -16,7 +16,8 @@ fn place_of(order: &VecDeque<u32>, t: u32) -> usize
 /// A thread can run from now on, or no longer: its number is put to its place, or taken away.
 pub(crate) fn keep_order(order: &mut VecDeque<u32>, t: u32, ran: bool, runs: bool)
     requires room { length order.old.items < deque_capacity order.old }
-    ensures items { (front back : List ℕ) → order.old.items ≡ front ++ (alone ran t ++ back) → IsBetween front t back → order.new.items ≡ front ++ (alone runs t ++ back) }
+    ensures items { (front back : List ℕ) → order.old.items ≡ front ++ (alone ran t ++ back) → IsBetween front t back
+        → order.new.items ≡ front ++ (alone runs t ++ back) }
     ensures capacity { deque_capacity order.old ≤ deque_capacity order.new }
 {
     match (ran, runs) {

@@ -11,7 +11,8 @@ use Rattle.jtypes.specs.ClassTrees.{Tree}
 
 -- every array fits these, as programs are checked
 abbrev pub is_above_arrays : Name → Bool
-is_above_arrays c = bytes_eq c.0 (codes "java/lang/Object") || bytes_eq c.0 (codes "java/lang/Cloneable") || bytes_eq c.0 (codes "java/io/Serializable")
+is_above_arrays c = bytes_eq c.0 (codes "java/lang/Object") || bytes_eq c.0 (codes "java/lang/Cloneable")
+    || bytes_eq c.0 (codes "java/io/Serializable")
 
 -- an interface is taken as `java/lang/Object` is: every object fits it
 abbrev pub class_fits : Tree → Name → Name → Bool

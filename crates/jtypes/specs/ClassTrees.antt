@@ -10,4 +10,5 @@ pub record Tree : Type 0 where
 
 -- what an interface stands below is an interface or `java/lang/Object`
 abbrev pub InterfacesExtendTheirs : Tree → Type 0
-InterfacesExtendTheirs t = (c d : Name) → t.is_interface c ≡ true → t.extends c d ≡ true → (t.is_interface d ≡ true) ⊎ (d.0 ≡ codes "java/lang/Object")
+InterfacesExtendTheirs t = (c d : Name) → t.is_interface c ≡ true → t.extends c d ≡ true
+    → (t.is_interface d ≡ true) ⊎ (d.0 ≡ codes "java/lang/Object")

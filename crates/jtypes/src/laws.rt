@@ -16,9 +16,11 @@ pub fn fits_laws<N: Ancestry>()
     ensures top { (n : N) (above : Name → Bool) (a : VType) → fits_where above (N.tree n) a Top ≡ true }
     ensures null_object { (n : N) (above : Name → Bool) (c : Name) → fits_where above (N.tree n) Null (Object c) ≡ true }
     ensures null_array { (n : N) (above : Name → Bool) (b : ArrayType) → fits_where above (N.tree n) Null (Array b) ≡ true }
-    ensures object { (n : N) (above : Name → Bool) (c d : Name) → N.valid n → d.0 ≡ codes "java/lang/Object" → fits_where above (N.tree n) (Object c) (Object d) ≡ true }
+    ensures object { (n : N) (above : Name → Bool) (c d : Name) → N.valid n → d.0 ≡ codes "java/lang/Object"
+        → fits_where above (N.tree n) (Object c) (Object d) ≡ true }
     ensures array { (n : N) (a : ArrayType) (d : Name) → d.0 ≡ codes "java/lang/Object" → fits (N.tree n) (Array a) (Object d) ≡ true }
-    ensures above { (n : N) (above : Name → Bool) (a : ArrayType) (d : Name) → above d ≡ true → fits_where above (N.tree n) (Array a) (Object d) ≡ true }
+    ensures above { (n : N) (above : Name → Bool) (a : ArrayType) (d : Name) → above d ≡ true
+        → fits_where above (N.tree n) (Array a) (Object d) ≡ true }
     ensures chain { (n : N) (above : Name → Bool) (c d e : Name) → N.valid n → (N.tree n).is_interface d ≡ false
         → fits_where above (N.tree n) (Object c) (Object d) ≡ true → fits_where above (N.tree n) (Object d) (Object e) ≡ true
         → fits_where above (N.tree n) (Object c) (Object e) ≡ true }

@@ -1,4 +1,4 @@
-//! The machine's values, as rooms: kinds and names of operations (jnames), and what operations make of values (jops). It stands on jground.
+//! The machine's values, as rooms: kinds and names of operations (jnames), and what operations make of values (jops). It stands on no crate.
 //!
 //! Each room is a module, whose head says what it holds and what is proved of it; its definitions lie in `specs/` under its name, and so does
 //! its part of `proofs/`.

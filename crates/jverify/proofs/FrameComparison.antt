@@ -7,10 +7,7 @@ use Rattle.jtypes.specs.declared.vtype.VType.{VType}
 use Rattle.jtypes.specs.declared.vtype.VType.TheVariants as types
 use Rattle.jtypes.specs.TypeFrames.{all_fit, places, places_of}
 use Rattle.jtyping.specs.jwelltyped.DeclaredFrames.{filled}
-
-and_true : (a : Bool) → (a && true) ≡ a
-and_true true = refl
-and_true false = refl
+use Rattle.jverify.proofs.NumberedTypes.{and_true}
 
 and_false : (a : Bool) → (a && false) ≡ false
 and_false true = refl

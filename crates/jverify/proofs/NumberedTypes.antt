@@ -32,7 +32,7 @@ and_turned true false = refl
 and_turned false true = refl
 and_turned false false = refl
 
-and_true : (a : Bool) → (a && true) ≡ a
+pub and_true : (a : Bool) → (a && true) ≡ a
 and_true true = refl
 and_true false = refl
 

@@ -16,7 +16,8 @@ use Rattle.jtyping.specs.jwelltyped.VerifierTests.{begun, entry_fault, frames_fa
 unfoldable pub frame_at : Program → Method → List Written → ℕ → List Placed → Option Frame → Option Frame
 frame_at p m ws at [] arriving = None
 frame_at p m ws at (o ∷ rest) arriving =
-    option_and_then (λ f. if o.at == at then Some f else option_and_then (frame_at p m ws at rest) (step p m ws o rest f)) (begun (declared_at ws (pos o.at)) arriving)
+    option_and_then (λ f. if o.at == at then Some f else option_and_then (frame_at p m ws at rest) (step p m ws o rest f))
+    (begun (declared_at ws (pos o.at)) arriving)
 
 -- what is found, unless there is a fault
 abbrev pub unless : {A : Type 0} → Option ℕ → Option A → Option A

@@ -115,7 +115,9 @@ fn called(
     params: &[FieldType],
     ret: &Option<FieldType>,
 ) -> Result<Signature, AllocError>
-    ensures { IfOk result (λ s. IsSignature p.now s (DescriptorTypes.called (each_some (DescriptorTypes.type_in p.now) params.now) (DescriptorTypes.return_in p.now ret.now))) }
+    ensures { IfOk result
+        (λ s. IsSignature p.now s
+        (DescriptorTypes.called (each_some (DescriptorTypes.type_in p.now) params.now) (DescriptorTypes.return_in p.now ret.now))) }
 {
     let Some(params) = params_in(alloc, p, params)? else {
         return Ok(no_signature(alloc));
@@ -158,7 +160,8 @@ fn behind_this(
     is_init: bool,
     params: Seq<TypeRef>,
 ) -> Result<Seq<TypeRef>, AllocError>
-    ensures { IfOk result (λ all. map (named p.now) all ≡ ProofNames.this_type is_init (class_named p.now (refs.User class)) ∷ reverse (map (named p.now) params)) }
+    ensures { IfOk result
+        (λ all. map (named p.now) all ≡ ProofNames.this_type is_init (class_named p.now (refs.User class)) ∷ reverse (map (named p.now) params)) }
 {
     let mut all = params.into_vec();
     all.push(this_type(p, class, is_init))?;
@@ -183,7 +186,9 @@ fn with_this(
     is_init: bool,
     params: Seq<TypeRef>,
 ) -> Result<Seq<TypeRef>, AllocError>
-    ensures { IfOk result (λ all. map (named p.now) all ≡ MethodPremises.receiver is_static is_init (class_named p.now (refs.User class)) ++ reverse (map (named p.now) params)) }
+    ensures { IfOk result
+        (λ all. map (named p.now) all ≡ MethodPremises.receiver is_static is_init (class_named p.now (refs.User class))
+        ++ reverse (map (named p.now) params)) }
 {
     if is_static {
         return Ok(in_order(p, params));

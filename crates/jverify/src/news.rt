@@ -101,7 +101,8 @@ fn all_made(
     ops: &[Placed],
 ) -> Result<Seq<Option<ClassRef>>, AllocError>
     requires { AreUses p.now uses.now }
-    ensures { IfOk result (λ made. map (option_map (class_named p.now)) made ≡ map (λ one. MethodPremises.made p.now (pool_at p.now class) (form one.op)) ops.now) }
+    ensures { IfOk result
+        (λ made. map (option_map (class_named p.now)) made ≡ map (λ one. MethodPremises.made p.now (pool_at p.now class) (form one.op)) ops.now) }
 {
     let mut made = Seq::new(alloc);
     for one in ops {

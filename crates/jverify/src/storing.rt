@@ -140,7 +140,8 @@ fn local_of(op: &Op) -> Option<LocalForm>
 
 /// Whether the frame behind an instruction has the locals and the flag of the one before it.
 pub(crate) fn rests(p: &NamedProgram, op: &Op, f: &FrameRef) -> bool
-    ensures { result ≡ true → (here : Here) (pool : List Entry) → Rests (seen p.now f.now) (by_form p.now here pool (form op.now) (seen p.now f.now)) }
+    ensures { result ≡ true → (here : Here) (pool : List Entry)
+        → Rests (seen p.now f.now) (by_form p.now here pool (form op.now) (seen p.now f.now)) }
 {
     if is_quiet(op) {
         return true;

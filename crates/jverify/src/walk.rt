@@ -106,7 +106,8 @@ impl<'a> Checking<'a> {
         requires checking { IsChecking self.now }
         requires held { IsHeld self.now f.now }
         ensures { result
-            ≡ VerifierTests.handler_fits (program_of self.now) (method_of self.now) (frames_of self.now) (held_seen (program_of self.now) f.now) h.now }
+            ≡ VerifierTests.handler_fits (program_of self.now) (method_of self.now) (frames_of self.now)
+            (held_seen (program_of self.now) f.now) h.now }
     {
         let Some(caught) = self.caught_type(h) else {
             return false;
@@ -123,7 +124,8 @@ impl<'a> Checking<'a> {
         requires checking { IsChecking self.now }
         requires held { IsHeld self.now f.now }
         ensures { result
-            ≡ ProofNames.handler_test (program_of self.now) (method_of self.now) (frames_of self.now) at (held_seen (program_of self.now) f.now) h.now }
+            ≡ ProofNames.handler_test (program_of self.now) (method_of self.now) (frames_of self.now) at
+            (held_seen (program_of self.now) f.now) h.now }
     {
         if !covers(at, h) {
             return true;
@@ -256,7 +258,8 @@ impl<'a> Checking<'a> {
     /// Whether a frame fits where the method begins.
     pub(crate) fn enters(&self, f: &FrameRef) -> bool
         requires { IsCounted self.now f.now }
-        ensures { result ≡ VerifierTests.enters (program_of self.now) (frames_of self.now) (seen (program_of self.now) f.now) (method_of self.now).body.ops }
+        ensures { result ≡ VerifierTests.enters (program_of self.now) (frames_of self.now) (seen (program_of self.now) f.now)
+            (method_of self.now).body.ops }
     {
         let method = self.method;
         match method.body.ops {

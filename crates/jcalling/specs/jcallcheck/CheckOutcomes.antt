@@ -64,18 +64,23 @@ pub record Changed {E : Type 0} (m n : Machine E) : Type 0 where
 -- A verdict was done to the running thread, whose call has so many operands, and these frames and this heap were left: by rules whose row does
 -- what the verdict says the step comes to that.
 abbrev pub Judges : {E : Type 0} → Machine E → perms.Permission → Verdict → (count : ℕ) → Judged → Framed E → Heaped → Type 0
-Judges {E} m asked verdict count way g k = (f : Framed E) (r : Rules ℕ E) (row : List (Value ℕ) → Option (Row ℕ E)) → m.guests.running.frames ≡ Some f → AreRules m r
+Judges {E} m asked verdict count way g k = (f : Framed E) (r : Rules ℕ E) (row : List (Value ℕ) → Option (Row ℕ E))
+    → m.guests.running.frames ≡ Some f → AreRules m r
     → row (take count f.newest.operands) ≡ Some (judged (store_of m) (thread_of (state_of m)) asked verdict)
-    → JudgedAs r m.calls m.plan.now (state_of m) asked verdict way g (store_of (with_run g k m)) (stepped r m.calls m.plan.now (state_of m) f count row)
+    → JudgedAs r m.calls m.plan.now (state_of m) asked verdict way g (store_of (with_run g k m))
+    (stepped r m.calls m.plan.now (state_of m) f count row)
 
 -- So was a NullPointerException raised.
 abbrev pub RaisesNull : {E : Type 0} → Machine E → (count : ℕ) → Raised → Framed E → Heaped → Type 0
-RaisesNull {E} m count way g k = (f : Framed E) (r : Rules ℕ E) (row : List (Value ℕ) → Option (Row ℕ E)) → m.guests.running.frames ≡ Some f → AreRules m r
+RaisesNull {E} m count way g k = (f : Framed E) (r : Rules ℕ E) (row : List (Value ℕ) → Option (Row ℕ E)) → m.guests.running.frames ≡ Some f
+    → AreRules m r
     → row (take count f.newest.operands) ≡ Some null
-    → RaisedAs r m.calls m.plan.now (state_of m) [] (type_of m.calls null_class) (store_of (with_run g k m)) way g (stepped r m.calls m.plan.now (state_of m) f count row)
+    → RaisedAs r m.calls m.plan.now (state_of m) [] (type_of m.calls null_class) (store_of (with_run g k m)) way g
+    (stepped r m.calls m.plan.now (state_of m) f count row)
 
 -- The machine was changed so.
-pub record JudgedOn {E : Type 0} (m : Machine E) (asked : perms.Permission) (verdict : Verdict) (count : ℕ) (way : Judged) (n : Machine E) : Type 0 where
+pub record JudgedOn {E : Type 0} (m : Machine E) (asked : perms.Permission) (verdict : Verdict) (count : ℕ) (way : Judged)
+    (n : Machine E) : Type 0 where
   pub change : Changed m n
   pub judges : Judges m asked verdict count way change.frames change.heap
 

@@ -62,7 +62,8 @@ module _ {E : Type 0} (m : Machine E) (f : Framed E) where
 pub record Finds {E : Type 0} (m : Machine E) (f : Framed E) (call : LibCall) (count : ℕ) (c : Check) : Type 0 where
   pub asked : asked_of m f call count ≡ checks m.side (here m f) (store_of m) (ask_by c.whom) c.operand
   pub row : (r : Rules ℕ E) → row_of m f call r (take count f.newest.operands)
-      ≡ checked (here m f) (store_of m) (λ one. verdict_by r (entries r m.calls m.plan.now (state_of m) (all f)) m.guests.running.inherited c.whom one) c.operand
+      ≡ checked (here m f) (store_of m)
+      (λ one. verdict_by r (entries r m.calls m.plan.now (state_of m) (all f)) m.guests.running.inherited c.whom one) c.operand
 
 -- It asks nothing, and has no step.
 pub record FindsNothing {E : Type 0} (m : Machine E) (f : Framed E) (call : LibCall) (count : ℕ) : Type 0 where

@@ -31,7 +31,8 @@ module _ {E : Type 0} (m : Machine E) (f : Framed E) where
       (entries r m.calls m.plan.now (state_of m) (all f)) m.guests.running.inherited call
 
 -- A call with so many operands asks this, if anything, and its row does this by any rules.
-pub record IsAsking {E : Type 0} (m : Machine E) (f : Framed E) (call : LibCall) (count : ℕ) (ask : Option (Ask ℕ)) (does : Rules ℕ E → Option (Row ℕ E)) : Type 0 where
+pub record IsAsking {E : Type 0} (m : Machine E) (f : Framed E) (call : LibCall) (count : ℕ) (ask : Option (Ask ℕ))
+    (does : Rules ℕ E → Option (Row ℕ E)) : Type 0 where
   pub asked : asked_of m f call count ≡ ask
   pub row : (r : Rules ℕ E) → AreRules m r → row_of m f call r (take count f.newest.operands) ≡ does r
 
@@ -40,7 +41,8 @@ pub record IsAsking {E : Type 0} (m : Machine E) (f : Framed E) (call : LibCall)
 -- A step comes to this by rules that are like these, whose row does this with so many operands of the running thread's newest frame.
 abbrev pub ComesBy : {E : Type 0} → Machine E → (count : ℕ) → (like : Rules ℕ E → Type 0) → Option (Row ℕ E) → Came → Machine E → Type 0
 ComesBy {E} m count like does came n = (f : Framed E) → m.guests.running.frames ≡ Some f
-    → (over : State ℕ E) × ((r : Rules ℕ E) (row : List (Value ℕ) → Option (Row ℕ E)) → AreRules m r → like r → row (take count f.newest.operands) ≡ does
+    → (over : State ℕ E) × ((r : Rules ℕ E) (row : List (Value ℕ) → Option (Row ℕ E)) → AreRules m r → like r
+    → row (take count f.newest.operands) ≡ does
     → stepped r m.calls m.plan.now (state_of m) f count row ≡ outcome_by over n came)
 
 -- ---- whoever is asked
@@ -50,7 +52,8 @@ abbrev pub CallKnown : {M K E : Type 0} → (ℕ → Option K) → (M → Option
 CallKnown {M} kept marks m call count = (f : Framed M) → m.guests.running.frames ≡ Some f → AsksKnown kept marks m (asked_of m f call count)
 
 -- The call was answered what it asks, and the step came to this by all rules that answer so.
-abbrev pub CallAnswered : {M K E : Type 0} → (old new : ℕ → Option K) (old_marks new_marks : M → Option E) → Rules K E → Machine M → LibCall → (count : ℕ)
+abbrev pub CallAnswered : {M K E : Type 0} → (old new : ℕ → Option K) (old_marks new_marks : M → Option E) → Rules K E → Machine M → LibCall
+    → (count : ℕ)
     → Came → Machine M → Type 0
 CallAnswered {M} old new old_marks new_marks rules m call count came n = (f : Framed M) → m.guests.running.frames ≡ Some f
     → Answered old new old_marks new_marks rules m (asked_of m f call count) (outcome_of m f call count) came n

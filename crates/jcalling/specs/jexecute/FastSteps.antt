@@ -63,7 +63,8 @@ abbrev pub program_of : {E : Type 0} → RunTables E → Program
 program_of x = x.ready.now.program
 
 -- A step of a thread came to this, and has left these frames and this heap.
-pub record Makes {E : Type 0} (p : Program) (x : RunTables E) (counts : Counts) (f : Framed E) (h : Heaped) (came : Stepped) (g : Framed E) (k : Heaped) : Type 0 where
+pub record Makes {E : Type 0} (p : Program) (x : RunTables E) (counts : Counts) (f : Framed E) (h : Heaped) (came : Stepped) (g : Framed E)
+    (k : Heaped) : Type 0 where
   pub row : (constants : List (List ℕ × ℕ)) → Advances p x counts constants f h came constants g k
   pub stands : StoodAs (length x.marks.now) came g
   pub alike : (things : Things) → AreCounted counts things → StepsAlike p x.shapes.now things came h.objects k.objects
@@ -105,7 +106,8 @@ stuck_as true = Some steps.Stuck
 stuck_as false = None
 
 -- So many went on within a method, of at most so many; behind them there is no step, where that is said, else nothing has changed.
-pub record StayedWithin {E : Type 0} (p : Program) (x : RunTables E) (counts : Counts) (method : MethodId) (most : ℕ) (f : Framed E) (h : Heaped) (made : Within)
+pub record StayedWithin {E : Type 0} (p : Program) (x : RunTables E) (counts : Counts) (method : MethodId) (most : ℕ) (f : Framed E) (h : Heaped)
+    (made : Within)
     (g : Framed E) (k : Heaped) : Type 0 where
   pub frames : Framed E
   pub heap : Heaped
@@ -117,7 +119,8 @@ pub record StayedWithin {E : Type 0} (p : Program) (x : RunTables E) (counts : C
   pub ends : EndsSo p x counts (stuck_as made.stuck) frames heap g k
   pub few : AreFew most made.steps (stuck_as made.stuck)
 
-pub record WereMade {E : Type 0} (p : Program) (x : RunTables E) (counts : Counts) (most : ℕ) (f : Framed E) (h : Heaped) (made : Hurried) (g : Framed E) (k : Heaped) : Type 0 where
+pub record WereMade {E : Type 0} (p : Program) (x : RunTables E) (counts : Counts) (most : ℕ) (f : Framed E) (h : Heaped) (made : Hurried)
+    (g : Framed E) (k : Heaped) : Type 0 where
   pub frames : Framed E
   pub heap : Heaped
   pub quiet : Quietly p x counts made.steps f h frames heap

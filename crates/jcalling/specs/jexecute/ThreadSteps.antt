@@ -68,8 +68,10 @@ pub record Moves {E : Type 0} (m : Machine E) (came : stepping.Stepped) (n : Mac
   pub heap : Heaped
   pub constants : Made
   pub is : n ≡ moved m after heap constants
-  pub comes : (r : Rules ℕ E) → AreRules m r → stepped.CameTo r m.calls m.plan.now (state_of m) before came after (store_of (moved m after heap constants))
-      (step r m.calls m.plan.now (state_of m)) (asks m.side m.calls m.plan.now (state_of m)) (instruction_at m.calls before.newest.method before.newest.place)
+  pub comes : (r : Rules ℕ E) → AreRules m r → stepped.CameTo r m.calls m.plan.now (state_of m) before came after
+      (store_of (moved m after heap constants))
+      (step r m.calls m.plan.now (state_of m)) (asks m.side m.calls m.plan.now (state_of m))
+      (instruction_at m.calls before.newest.method before.newest.place)
   pub stands : StoodAs (classes_of m) came after
   pub machine : StaysMachine came (moved m after heap constants)
 

@@ -41,9 +41,11 @@ fn check_for<G: Guard>(
 ) -> Result<Came, AllocError>
     requires calling { Calling m.old count }
     requires found { Found m.old call count (Some wanted) }
-    requires known { (f : Framed G.Mark) → m.old.guests.running.frames ≡ Some f → AsksKnown (G.kept guard.old) (G.entry guard.old) m.old (asked_of m.old f call count) }
+    requires known { (f : Framed G.Mark) → m.old.guests.running.frames ≡ Some f
+        → AsksKnown (G.kept guard.old) (G.entry guard.old) m.old (asked_of m.old f call count) }
     ensures answered { IfOk result (λ done. (f : Framed G.Mark) → m.old.guests.running.frames ≡ Some f
-        → Answered (G.kept guard.old) (G.kept guard.new) (G.entry guard.old) (G.entry guard.new) (G.rules guard.old) m.old (asked_of m.old f call count)
+        → Answered (G.kept guard.old) (G.kept guard.new) (G.entry guard.old) (G.entry guard.new) (G.rules guard.old) m.old
+        (asked_of m.old f call count)
         (outcome_of m.old f call count) done m.new) }
     ensures ready { IfOk result (GoesOn m.new) }
     ensures fixed { OnOk result (StaysFixed m.old m.new) }
@@ -81,9 +83,11 @@ pub fn call_check<G: Guard>(
 ) -> Result<Came, AllocError>
     requires check { IsCheck call }
     requires calling { Calling m.old count }
-    requires known { (f : Framed G.Mark) → m.old.guests.running.frames ≡ Some f → AsksKnown (G.kept guard.old) (G.entry guard.old) m.old (asked_of m.old f call count) }
+    requires known { (f : Framed G.Mark) → m.old.guests.running.frames ≡ Some f
+        → AsksKnown (G.kept guard.old) (G.entry guard.old) m.old (asked_of m.old f call count) }
     ensures answered { IfOk result (λ done. (f : Framed G.Mark) → m.old.guests.running.frames ≡ Some f
-        → Answered (G.kept guard.old) (G.kept guard.new) (G.entry guard.old) (G.entry guard.new) (G.rules guard.old) m.old (asked_of m.old f call count)
+        → Answered (G.kept guard.old) (G.kept guard.new) (G.entry guard.old) (G.entry guard.new) (G.rules guard.old) m.old
+        (asked_of m.old f call count)
         (outcome_of m.old f call count) done m.new) }
     ensures ready { IfOk result (GoesOn m.new) }
     ensures fixed { OnOk result (StaysFixed m.old m.new) }
@@ -112,14 +116,16 @@ pub fn call_kept_check<G: Guard>(
     requires known { (f : Framed G.Mark) → m.old.guests.running.frames ≡ Some f
         → AsksKnown (G.kept guard.old) (G.entry guard.old) m.old (asked_of m.old f calls.ContextCheck count) }
     ensures answered { IfOk result (λ done. (f : Framed G.Mark) → m.old.guests.running.frames ≡ Some f
-        → Answered (G.kept guard.old) (G.kept guard.new) (G.entry guard.old) (G.entry guard.new) (G.rules guard.old) m.old (asked_of m.old f calls.ContextCheck count)
+        → Answered (G.kept guard.old) (G.kept guard.new) (G.entry guard.old) (G.entry guard.new) (G.rules guard.old) m.old
+        (asked_of m.old f calls.ContextCheck count)
         (outcome_of m.old f calls.ContextCheck count) done m.new) }
     ensures ready { IfOk result (GoesOn m.new) }
     ensures fixed { OnOk result (StaysFixed m.old m.new) }
     ensures rules { G.rules guard.new ≡ G.rules guard.old }
     ensures keeps { Keeps (G.kept guard.old) (G.kept guard.new) }
     ensures marks { Keeps (G.entry guard.old) (G.entry guard.new) }
-    ensures quiet { (f : Framed G.Mark) → m.old.guests.running.frames ≡ Some f → asked_of m.old f calls.ContextCheck count ≡ None → guard.new ≡ guard.old }
+    ensures quiet { (f : Framed G.Mark) → m.old.guests.running.frames ≡ Some f → asked_of m.old f calls.ContextCheck count ≡ None
+        → guard.new ≡ guard.old }
     ensures once { OnOk result ((f : Framed G.Mark) → m.old.guests.running.frames ≡ Some f
         → AskedOnce G.asked guard.old guard.new (asked_of m.old f calls.ContextCheck count)) }
 {

@@ -73,7 +73,8 @@ fn act_by<G: Guard>(
     requires target { RunTarget m.old wanted.action target }
     requires within { TargetWithin (classes_of m.old) target }
     requires known { CallKnown (G.kept guard.old) (G.entry guard.old) m.old call count }
-    ensures answered { IfOk result (λ done. CallAnswered (G.kept guard.old) (G.kept guard.new) (G.entry guard.old) (G.entry guard.new) (G.rules guard.old)
+    ensures answered { IfOk result
+        (λ done. CallAnswered (G.kept guard.old) (G.kept guard.new) (G.entry guard.old) (G.entry guard.new) (G.rules guard.old)
         m.old call count done m.new) }
     ensures ready { IfOk result (GoesOn m.new) }
     ensures fixed { OnOk result (StaysFixed m.old m.new) }
@@ -111,7 +112,8 @@ fn run_wanted<G: Guard>(
     requires marks { m.old.fixed.marks.now ≡ marks_of G.mark m.old.calls }
     requires found { FoundPrivilege m.old call count (wants.Asks wanted) }
     requires known { CallKnown (G.kept guard.old) (G.entry guard.old) m.old call count }
-    ensures answered { IfOk result (λ done. CallAnswered (G.kept guard.old) (G.kept guard.new) (G.entry guard.old) (G.entry guard.new) (G.rules guard.old)
+    ensures answered { IfOk result
+        (λ done. CallAnswered (G.kept guard.old) (G.kept guard.new) (G.entry guard.old) (G.entry guard.new) (G.rules guard.old)
         m.old call count done m.new) }
     ensures ready { IfOk result (GoesOn m.new) }
     ensures fixed { OnOk result (StaysFixed m.old m.new) }
@@ -140,7 +142,8 @@ pub fn call_privileged<G: Guard>(
     requires calling { Calling m.old count }
     requires marks { m.old.fixed.marks.now ≡ marks_of G.mark m.old.calls }
     requires known { CallKnown (G.kept guard.old) (G.entry guard.old) m.old call count }
-    ensures answered { IfOk result (λ done. CallAnswered (G.kept guard.old) (G.kept guard.new) (G.entry guard.old) (G.entry guard.new) (G.rules guard.old)
+    ensures answered { IfOk result
+        (λ done. CallAnswered (G.kept guard.old) (G.kept guard.new) (G.entry guard.old) (G.entry guard.new) (G.rules guard.old)
         m.old call count done m.new) }
     ensures ready { IfOk result (GoesOn m.new) }
     ensures fixed { OnOk result (StaysFixed m.old m.new) }

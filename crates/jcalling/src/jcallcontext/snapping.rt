@@ -56,7 +56,8 @@ pub fn call_snapshot<G: Guard>(
     requires call { IsSnapshot call }
     requires calling { Calling m.old count }
     requires known { CallKnown (G.kept guard.old) (G.entry guard.old) m.old call count }
-    ensures answered { IfOk result (λ done. CallAnswered (G.kept guard.old) (G.kept guard.new) (G.entry guard.old) (G.entry guard.new) (G.rules guard.old)
+    ensures answered { IfOk result
+        (λ done. CallAnswered (G.kept guard.old) (G.kept guard.new) (G.entry guard.old) (G.entry guard.new) (G.rules guard.old)
         m.old call count done m.new) }
     ensures ready { IfOk result (GoesOn m.new) }
     ensures fixed { OnOk result (StaysFixed m.old m.new) }

@@ -49,7 +49,8 @@ IsStack entries s a = (n : ℕ) × (a ≡ answers.Kept n) × (n < length entries
 -- it marks a frame of a domain so
 abbrev pub IsMarked : List KeptEntry → ℕ → Mark → Answer InspectMark → Type 0
 IsMarked entries d mark a =
-    (n : ℕ) × (a ≡ answers.Marked (record { domain = d; privileged = Some n }) None) × (n < length entries) × (mark_at (things entries) (Some n) ≡ mark)
+    (n : ℕ) × (a ≡ answers.Marked (record { domain = d; privileged = Some n }) None) × (n < length entries)
+    × (mark_at (things entries) (Some n) ≡ mark)
 
 -- ---- asks
 

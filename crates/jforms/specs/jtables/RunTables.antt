@@ -58,7 +58,8 @@ BegunOr p plan side marks first None = plan.heap < opening_charge p
 BegunOr p plan side marks first (Some m) = IsBegun p plan side marks first m
 
 -- A machine stands at the beginning of a run by a guard's rules, by what its numbers and marks stand for.
-pub record Starts {M K E : Type 0} (kept : ℕ → Option K) (entry : M → Option E) (mark : ℕ → M) (rules : Rules K E) (p : Program) (plan : Plan) (m : Machine M) : Type 0 where
+pub record Starts {M K E : Type 0} (kept : ℕ → Option K) (entry : M → Option E) (mark : ℕ → M) (rules : Rules K E) (p : Program) (plan : Plan)
+    (m : Machine M) : Type 0 where
   pub engine : IsEngine kept entry mark rules m
   pub begins : Begins (λ s. StandsFor kept entry (state_of m) s) (opening rules p plan)
   pub steps : step rules m.calls m.plan.now ≡ step rules p plan

@@ -92,7 +92,8 @@ fn call_silent<G: Guard>(
     requires free { IsAskFree call }
     requires calling { Calling m.old count }
     requires told { MayTell m.old call count }
-    ensures answered { IfOk result (λ came. CallAnswered (G.kept guard.now) (G.kept guard.now) (G.entry guard.now) (G.entry guard.now) (G.rules guard.now)
+    ensures answered { IfOk result
+        (λ came. CallAnswered (G.kept guard.now) (G.kept guard.now) (G.entry guard.now) (G.entry guard.now) (G.rules guard.now)
         m.old call count came m.new) }
     ensures once { OnOk result (CallOnce m.old call count G.asked guard.now guard.now) }
     ensures ready { IfOk result (GoesOn m.new) }
@@ -114,7 +115,8 @@ fn call_library<G: Guard>(
     requires carry { m.old.fixed.marks.now ≡ marks_of G.mark m.old.calls }
     requires known { CallKnown (G.kept guard.old) (G.entry guard.old) m.old call count }
     requires told { MayTell m.old call count }
-    ensures answered { IfOk result (λ came. CallAnswered (G.kept guard.old) (G.kept guard.new) (G.entry guard.old) (G.entry guard.new) (G.rules guard.old)
+    ensures answered { IfOk result
+        (λ came. CallAnswered (G.kept guard.old) (G.kept guard.new) (G.entry guard.old) (G.entry guard.new) (G.rules guard.old)
         m.old call count came m.new) }
     ensures ready { IfOk result (GoesOn m.new) }
     ensures fixed { OnOk result (StaysFixed m.old m.new) }
@@ -153,7 +155,8 @@ pub(crate) fn answer<G: Guard>(
     ensures keeps { Keeps (G.kept guard.old) (G.kept guard.new) }
     ensures marks { Keeps (G.entry guard.old) (G.entry guard.new) }
     ensures quiet { (before : MachineOf G.Mark) → Executes before found m.old → asks_next before ≡ None → guard.new ≡ guard.old }
-    ensures once { OnOk result ((before : MachineOf G.Mark) → Executes before found m.old → AskedOnce G.asked guard.old guard.new (asks_next before)) }
+    ensures once { OnOk result
+        ((before : MachineOf G.Mark) → Executes before found m.old → AskedOnce G.asked guard.old guard.new (asks_next before)) }
 {
     match found {
         Executed::Done(came) => Ok(came),

@@ -80,7 +80,8 @@ fn count_all<G: Guard + Drop>(
     engine: &mut Engine<'_, '_, G>,
     most: u64,
 ) -> Result<Tally, AllocError>
-    ensures { IfOk result (λ t. (step : State G.Kept G.Entry → Outcome (State G.Kept G.Entry)) (first : Run (State G.Kept G.Entry)) → first.events ≡ []
+    ensures { IfOk result
+        (λ t. (step : State G.Kept G.Entry → Outcome (State G.Kept G.Entry)) (first : Run (State G.Kept G.Entry)) → first.events ≡ []
         → IsAt (end_of engine.old.course) (Stands (G.kept engine.old.guard) (G.entry engine.old.guard) engine.old.course)
         (steps (G.rules engine.old.guard) engine.old.course) step first
         → t ≡ tally_of (run_from step most first)) }

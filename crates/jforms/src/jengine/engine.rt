@@ -50,7 +50,8 @@ fn go_on<G: Guard>(
     requires goes { end_of course.old ≡ None }
     ensures comes { IfOk result (λ came. (s : State G.Kept G.Entry) → Stands (G.kept guard.old) (G.entry guard.old) course.old s
         → ComesTo (λ t. Stands (G.kept guard.new) (G.entry guard.new) course.new t) (steps (G.rules guard.old) course.old s) (came_as came)) }
-    ensures holds { IfOk result (λ came. WhereWent (Holds (G.kept guard.new) (G.entry guard.new) G.mark (G.rules guard.new) course.new) (came_as came)) }
+    ensures holds { IfOk result
+        (λ came. WhereWent (Holds (G.kept guard.new) (G.entry guard.new) G.mark (G.rules guard.new) course.new) (came_as came)) }
     ensures same { OnOk result (steps (G.rules guard.new) course.new ≡ steps (G.rules guard.old) course.old) }
     ensures runs { OnOk result (Runs course.new) }
     ensures again { is_lost course.old ≡ true → is_err result ≡ true }
@@ -114,8 +115,10 @@ impl<'a, 'p, G: Guard + Drop> Engine<'a, 'p, G> {
     pub fn step(&mut self, alloc: Global) -> Result<Stepped, AllocError>
         requires goes { end_of self.old.course ≡ None }
         ensures comes { IfOk result (λ came. (s : State G.Kept G.Entry) → Stands (G.kept self.old.guard) (G.entry self.old.guard) self.old.course s
-            → ComesTo (λ t. Stands (G.kept self.new.guard) (G.entry self.new.guard) self.new.course t) (steps (G.rules self.old.guard) self.old.course s) (came_as came)) }
-        ensures same { IfOk result (λ came. WhereWent (steps (G.rules self.new.guard) self.new.course ≡ steps (G.rules self.old.guard) self.old.course) (came_as came)) }
+            → ComesTo (λ t. Stands (G.kept self.new.guard) (G.entry self.new.guard) self.new.course t)
+            (steps (G.rules self.old.guard) self.old.course s) (came_as came)) }
+        ensures same { IfOk result
+            (λ came. WhereWent (steps (G.rules self.new.guard) self.new.course ≡ steps (G.rules self.old.guard) self.old.course) (came_as came)) }
         ensures ended { IfOk result (λ came. end_of self.new.course ≡ end_in came) }
         ensures found { OnOk result (is_lost self.new.course ≡ false) }
         ensures lost { OnErr result (is_lost self.new.course ≡ true) }

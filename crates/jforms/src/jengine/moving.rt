@@ -38,8 +38,10 @@ pub(crate) fn move_on<G: Guard>(
     ensures comes { IfOk result (λ came. (s : StateOf G.Kept G.Entry) → StandsFor (G.kept guard.old) (G.entry guard.old) (state_of machine.old) s
         → ComesTo (λ t. StandsFor (G.kept guard.new) (G.entry guard.new) (state_of machine.new) t)
         (steps_by (G.rules guard.old) machine.old.calls machine.old.plan.now s) (came_as came)) }
-    ensures ready { IfOk result (λ came. WhereWent (IsEngine (G.kept guard.new) (G.entry guard.new) G.mark (G.rules guard.new) machine.new) (came_as came)) }
-    ensures same { OnOk result (steps_by (G.rules guard.new) machine.new.calls machine.new.plan.now ≡ steps_by (G.rules guard.old) machine.old.calls machine.old.plan.now) }
+    ensures ready { IfOk result
+        (λ came. WhereWent (IsEngine (G.kept guard.new) (G.entry guard.new) G.mark (G.rules guard.new) machine.new) (came_as came)) }
+    ensures same { OnOk result
+        (steps_by (G.rules guard.new) machine.new.calls machine.new.plan.now ≡ steps_by (G.rules guard.old) machine.old.calls machine.old.plan.now) }
     ensures rules { G.rules guard.new ≡ G.rules guard.old }
     ensures keeps { Keeps (G.kept guard.old) (G.kept guard.new) }
     ensures marks { Keeps (G.entry guard.old) (G.entry guard.new) }
@@ -66,8 +68,10 @@ fn make_steps<G: Guard>(
         → Goes (λ t. StandsFor (G.kept guard.new) (G.entry guard.new) (state_of machine.new) t)
         (steps_by (G.rules guard.old) machine.old.calls machine.old.plan.now) s made) }
     ensures few { IfOk result (AreFew most) }
-    ensures ready { IfOk result (λ made. WhereGoes (IsEngine (G.kept guard.new) (G.entry guard.new) G.mark (G.rules guard.new) machine.new) made.last) }
-    ensures same { OnOk result (steps_by (G.rules guard.new) machine.new.calls machine.new.plan.now ≡ steps_by (G.rules guard.old) machine.old.calls machine.old.plan.now) }
+    ensures ready { IfOk result
+        (λ made. WhereGoes (IsEngine (G.kept guard.new) (G.entry guard.new) G.mark (G.rules guard.new) machine.new) made.last) }
+    ensures same { OnOk result
+        (steps_by (G.rules guard.new) machine.new.calls machine.new.plan.now ≡ steps_by (G.rules guard.old) machine.old.calls machine.old.plan.now) }
 {
     guard_laws::<G>();
     states_laws::<ByRules<G>>();

@@ -59,7 +59,8 @@ impl<'d> Inspector<'d> {
     ) -> Result<Answer<InspectMark>, AllocError>
         requires marks { AllBelow (length self.now.entries) marks.now }
         requires inherited { Below (length self.now.entries) inherited }
-        ensures { IfOk result (λ a. a ≡ Answer.Verdict (walk (has self.now.domains) asked.now (stack_of (things self.now.entries) marks.now inherited))) }
+        ensures { IfOk result
+            (λ a. a ≡ Answer.Verdict (walk (has self.now.domains) asked.now (stack_of (things self.now.entries) marks.now inherited))) }
     {
         let verdict = self
             .kept

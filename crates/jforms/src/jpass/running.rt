@@ -42,9 +42,11 @@ pub fn run_pass<K: Sink>(
     out: &mut K,
 ) -> Result<End, RunFault>
     requires main { IsMain program.now plan.now.main }
-    ensures written { OnOk result (K.out out.new ≡ appended (K.out out.old) (run_text (run_of (plain (has domains.now)) program.now plan.now plan.now.steps))) }
+    ensures written { OnOk result
+        (K.out out.new ≡ appended (K.out out.old) (run_text (run_of (plain (has domains.now)) program.now plan.now plan.now.steps))) }
     ensures end { IfOk result (λ end. end ≡ ending (run_of (plain (has domains.now)) program.now plan.now plan.now.steps)) }
-    ensures cut { OnErr result (IsCut (K.out out.old) (K.out out.new) (run_text (run_of (plain (has domains.now)) program.now plan.now plan.now.steps))) }
+    ensures cut { OnErr result
+        (IsCut (K.out out.old) (K.out out.new) (run_text (run_of (plain (has domains.now)) program.now plan.now plan.now.steps))) }
     ensures later { K.faults out.old ≤ K.faults out.new }
     ensures cause { result ≡ Err SinkFault → Rose (K.faults out.old) (K.faults out.new) }
     ensures simulated { (p : Program) → IsMoved p program.now

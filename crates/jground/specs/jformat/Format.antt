@@ -32,7 +32,8 @@ abbrev pub byte : {K : Type 0} → K → Format K ℕ
 byte cut = record { spell = λ n. n ∷ []; fits = λ n. nat_lt n 256; read = elim [ [] ↦ fault cut [] | b ∷ rest ↦ Ok (b, rest) ] }
 
 abbrev pub number_at : {K : Type 0} → Width → K → List ℕ → Answer K ℕ
-number_at w cut bytes = if nat_lt (length bytes) (byte_len w) then fault cut bytes else Ok (from_be_bytes w (take (byte_len w) bytes), drop (byte_len w) bytes)
+number_at w cut bytes = if nat_lt (length bytes) (byte_len w) then fault cut bytes else Ok
+    (from_be_bytes w (take (byte_len w) bytes), drop (byte_len w) bytes)
 
 -- a number, the high byte first
 abbrev pub number : {K : Type 0} → Width → K → Format K ℕ

@@ -134,7 +134,8 @@ pub fn units_of(alloc: Global, bytes: &[u8]) -> Result<Units, TextError>
     // What is read is spelled so.
     ensures found { IfOk result (λ u. bytes.now ≡ flat_map group u) }
     // What is spelled so is read, unless memory runs out.
-    ensures only { (u : List ℕ) → IsTrue (list_all (λ n. nat_lt n 0x1_0000) u) → bytes.now ≡ flat_map group u → GivesAt (λ v. v) bytes.now result (Ok u) }
+    ensures only { (u : List ℕ) → IsTrue (list_all (λ n. nat_lt n 0x1_0000) u) → bytes.now ≡ flat_map group u
+        → GivesAt (λ v. v) bytes.now result (Ok u) }
     // Which fault it is: the first byte of the first bad group.
     ensures exact { GivesAt (λ u. u) bytes.now result (text.read bytes.now) }
 {
@@ -200,5 +201,6 @@ pub fn bytes_of(alloc: Global, units: &Units) -> Result<Vec<u8>, AllocError>
 
 /// No two texts share a spelling.
 pub fn spelling_law()
-    ensures one { (u v : List ℕ) → IsTrue (list_all (λ n. nat_lt n 0x1_0000) u) → IsTrue (list_all (λ n. nat_lt n 0x1_0000) v) → flat_map group u ≡ flat_map group v → u ≡ v }
+    ensures one { (u v : List ℕ) → IsTrue (list_all (λ n. nat_lt n 0x1_0000) u) → IsTrue (list_all (λ n. nat_lt n 0x1_0000) v)
+        → flat_map group u ≡ flat_map group v → u ≡ v }
 {}

@@ -1,36 +1,21 @@
 -- What the call of an action comes to, and what raises an exception in place of it.
-use Rattle.std.proofs.Common.{◌≡◌, ◌∙◌, ◌+◌, ℕ, true, false, List, ◌∷◌, ◌++◌, length, drop, take, Option, Some, None, refl, sym, ap, subst}
+use Rattle.std.proofs.Common.{◌≡◌, ◌∙◌, ◌+◌, ℕ, true, false, List, ◌∷◌, ◌++◌, length, drop, take, Option, Some, None, refl, sym, subst}
 use Rattle.std.specs.Prelude.{option_map, option_to_list}
 use Rattle.std.proofs.Math.Dec.{leb-zero}
-use Rattle.jlib.specs.declared.classes.LibClass.TheVariants as lib
-use Rattle.jlib.specs.declared.classes.Thrown.{Thrown as ThrownClass}
 use Rattle.jvalues.specs.declared.jops.value.Value.{Value}
 use Rattle.jvalues.specs.declared.jops.value.Value.TheVariants.{Ref, Ctx}
-use Rattle.jtypes.specs.declared.vtype.VType.TheVariants as types
 use Rattle.jclass.specs.declared.class.CodeBody.{CodeBody}
-use Rattle.jresolution.specs.declared.jprogram.member.MethodId.{MethodId}
 use Rattle.jresolution.specs.juses.IndexedInstructions.{code_at}
-use Rattle.jsemantics.specs.jmachine.FrameOperations.{carrying, domain_of, frame_of, with_operands}
+use Rattle.jsemantics.specs.jmachine.FrameOperations.{carrying, domain_of, with_operands}
 use Rattle.jsemantics.specs.jmachine.MachineSteps.{acted, applied}
 use Rattle.jruntime.specs.jstate.FrameLists.{Framed, holding, pushed, starting, with_newest}
 use Rattle.jrows.proofs.JactsProofs.Costs.{unpaid}
 use Rattle.jrows.specs.declared.jcalls.calls.Callee.{Callee}
 use Rattle.jlibcalls.specs.declared.jcontexts.acting.Acted.TheVariants as ways
 use Rattle.jlibcalls.specs.jcontexts.ActionCalls.{ActsStanding, CallsAction, RaisesSteps, handed_on}
+use Rattle.jrows.proofs.JcallsProofs.MethodEntry.{begun_some, begun_none}
 
 -- ---- a method's frame
-
-pub begun_some : {E : Type 0} (m : MethodId) (entry : E) (arguments : List (Value ℕ)) (most : ℕ) (o : Option CodeBody)
-    → option_map (λ (body : CodeBody). body.max_locals) o ≡ Some most
-    → option_map (frame_of m entry arguments) o ≡ Some (starting m most arguments entry)
-begun_some m entry arguments most None h = cc
-begun_some m entry arguments most (Some body) h = let e : body.max_locals ≡ most = cc in ap (λ n. Some (starting m n arguments entry)) e
-
-pub begun_none : {E : Type 0} (m : MethodId) (entry : E) (arguments : List (Value ℕ)) (o : Option CodeBody)
-    → option_map (λ (body : CodeBody). body.max_locals) o ≡ None
-    → option_map (frame_of m entry arguments) o ≡ None
-begun_none m entry arguments None h = refl
-begun_none m entry arguments (Some body) h = cc
 
 -- ---- the call of an action
 

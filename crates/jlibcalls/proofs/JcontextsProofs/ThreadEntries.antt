@@ -36,7 +36,7 @@ use Rattle.jrows.proofs.JcallsProofs.ThrownExceptions as throwing
 use Rattle.jrows.proofs.JcallsProofs.ThrownExceptions.{last_object, one_longer, raised_store}
 use Rattle.jlibcalls.specs.jcontexts.KeptContexts.{StayKept}
 use Rattle.jlibcalls.specs.jcontexts.RunnableStarts.{AsksNothing, Begins, BeginsStanding, EndsUnbegun, FailsFirst, IsUnbegun, StuckUnbegun, begins_by, run_of}
-use Rattle.jlibcalls.proofs.JcontextsProofs.ActionCalls.{begun_none, begun_some}
+use Rattle.jrows.proofs.JcallsProofs.MethodEntry.{begun_none, begun_some}
 use Rattle.jlibcalls.proofs.JcontextsProofs.SnapshotStability.{raised_kept}
 
 -- ---- where a thread begins

@@ -36,7 +36,8 @@ abbrev pub denied_type : VType
 denied_type = types.Object (library_name lib.AccessControlException)
 
 -- A granted check is told, and the thread goes on with these frames; a denied one is told and raises an exception.
-abbrev pub JudgedAs : {E : Type 0} → Rules ℕ E → Program → Plan → State ℕ E → perms.Permission → Verdict → Judged → Framed E → Store ℕ → Outcome (State ℕ E) → Type 0
+abbrev pub JudgedAs : {E : Type 0} → Rules ℕ E → Program → Plan → State ℕ E → perms.Permission → Verdict → Judged → Framed E → Store ℕ
+    → Outcome (State ℕ E) → Type 0
 JudgedAs r p plan s asked verdicts.Granted ways.Granted g store outcome = outcome ≡ went r p plan s (all g) store (Grant (thread_of s) asked ∷ [])
 JudgedAs r p plan s asked (verdicts.Denied domain) (ways.Denied way) g store outcome =
     RaisedAs r p plan s (Deny (thread_of s) asked domain ∷ []) denied_type store way g outcome
@@ -44,7 +45,8 @@ JudgedAs r p plan s asked verdict way g store outcome = ⊥
 
 -- A check was decided so, with so many operands of its call there, and these frames and this heap were left: the step is the one whose row
 -- does what the verdict says.
-abbrev pub Judges : {E : Type 0} → List E → (MethodId → ℕ → Option ℕ) → perms.Permission → Verdict → (count : ℕ) → Framed E → Heaped → Judged → Framed E → Heaped → Type 0
+abbrev pub Judges : {E : Type 0} → List E → (MethodId → ℕ → Option ℕ) → perms.Permission → Verdict → (count : ℕ) → Framed E → Heaped → Judged
+    → Framed E → Heaped → Type 0
 Judges {E} marks goes asked verdict count f h way g k = (r : Rules ℕ E) (p : Program) (plan : Plan) (s : State ℕ E)
     (shapes : Shapes) (things : Things) (constants : List (List ℕ × ℕ)) (row : List (Value ℕ) → Option (Row ℕ E))
     → marks ≡ marks_of r.entry_of p → s.store ≡ store_by p shapes things constants h → AllByRecursion (IsTold p denied_type goes) (all f)

@@ -49,5 +49,6 @@ snapshot_with side values = None
 
 pub record SnapshotsWith (E : Type 0) (call_side : Side) (values : List (Value ℕ)) (found : Option (Option ℕ)) : Type 0 where
   pub row : (r : Rules ℕ E) (at : Site) (own : Member → Bool) (s : Store ℕ) (entries : List E) (inherited : Option ℕ)
-      → run r at own s entries inherited (snapshot_call call_side) values ≡ option_map (λ ctx. context_made s (r.snapshot ctx entries inherited)) found
+      → run r at own s entries inherited (snapshot_call call_side) values
+      ≡ option_map (λ ctx. context_made s (r.snapshot ctx entries inherited)) found
   pub asked : (side : Side) (at : Site) (s : Store ℕ) → run_asks side at s (snapshot_call call_side) values ≡ option_map Snapshots found

@@ -18,7 +18,8 @@ with_kept kept things = record { permissions = things.permissions; kept = kept }
 
 -- No object names what is kept behind these: more of it changes nothing of what the objects are.
 abbrev pub AreKept : Program → Shapes → Things → List heaps.Object → Type 0
-AreKept p shapes things objects = (more : List ℕ) → objects_by p shapes (with_kept (things.kept ++ more) things) objects ≡ objects_by p shapes things objects
+AreKept p shapes things objects = (more : List ℕ) → objects_by p shapes (with_kept (things.kept ++ more) things) objects
+    ≡ objects_by p shapes things objects
 
 -- Where these objects name nothing behind what is kept, those that were left of them don't either.
 abbrev pub StayKept : List heaps.Object → List heaps.Object → Type 0

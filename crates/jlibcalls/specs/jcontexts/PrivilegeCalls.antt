@@ -34,7 +34,8 @@ run_on at s side n = option_map (by_interface at.world at.full (run_action side)
 abbrev pub wanted_row : {E : Type 0} → Rules ℕ E → Site → Store ℕ → List E → Privileging → Option (Row ℕ E)
 wanted_row r at s entries found.Null = Some null
 wanted_row r at s entries found.Stuck = None
-wanted_row r at s entries (found.Asks w) = option_and_then (acting w.action (r.privileged w.domain w.ctx w.given w.limits entries)) (run_on at s r.side w.action)
+wanted_row r at s entries (found.Asks w) = option_and_then (acting w.action (r.privileged w.domain w.ctx w.given w.limits entries))
+    (run_on at s r.side w.action)
 
 -- what is asked: the privilege, where `run` is called
 abbrev pub wanted_asks : Side → Site → Store ℕ → Privileging → Option (Ask ℕ)
@@ -43,7 +44,8 @@ wanted_asks side at s found.Stuck = None
 wanted_asks side at s (found.Asks w) = where_run side at s (Privileges w.domain w.ctx w.given w.limits) (run_on at s side w.action)
 
 -- This was found of what has such a row and asks this.
-pub record Wants (E : Type 0) (s : Store ℕ) (rows : Rules ℕ E → Site → List E → Option (Row ℕ E)) (asks : Side → Site → Option (Ask ℕ)) (w : Privileging) : Type 0 where
+pub record Wants (E : Type 0) (s : Store ℕ) (rows : Rules ℕ E → Site → List E → Option (Row ℕ E)) (asks : Side → Site → Option (Ask ℕ))
+    (w : Privileging) : Type 0 where
   pub row : (r : Rules ℕ E) (at : Site) (entries : List E) → rows r at entries ≡ wanted_row r at s entries w
   pub asked : (side : Side) (at : Site) → asks side at ≡ wanted_asks side at s w
 

@@ -73,7 +73,8 @@ FailedAs plan s class false store outcome = outcome ≡ Over s [] HeapFull
 
 -- An exception of a class was raised where a thread was to begin, and this heap was left.
 abbrev pub FailsFirst : Type 0 → ThrownClass → Heaped → Bool → Heaped → Type 0
-FailsFirst E class h room k = (r : Rules ℕ E) (p : Program) (plan : Plan) (s : State ℕ E) (shapes : Shapes) (things : Things) (constants : List (List ℕ × ℕ)) (n : ℕ)
+FailsFirst E class h room k = (r : Rules ℕ E) (p : Program) (plan : Plan) (s : State ℕ E) (shapes : Shapes) (things : Things)
+    (constants : List (List ℕ × ℕ)) (n : ℕ)
     → IsUnbegun n s → s.store ≡ store_by p shapes things constants h → begins_by r.side p s.store n ≡ Some (Fails (lib.Thrown class))
     → FailedAs plan s class room (store_by p shapes things constants k) (step r p plan s)
 

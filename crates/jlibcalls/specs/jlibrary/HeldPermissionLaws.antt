@@ -19,7 +19,8 @@ use Rattle.jlibcalls.specs.jlibrary.HeldPermissions.{AreHeld, AreWithin}
 -- A row that isn't stuck leaves those held that were, if it did what the definition says for all that is kept by which the heap stands for the
 -- same store.
 abbrev pub RowsStayHeld : Type 0 → Type 0
-RowsStayHeld E = (p : Program) (shapes : Shapes) (permissions : List perms.Permission) (h k : Heaped) (f g : FrameOf ℕ E) (way : Way) (told : List Event)
+RowsStayHeld E = (p : Program) (shapes : Shapes) (permissions : List perms.Permission) (h k : Heaped) (f g : FrameOf ℕ E) (way : Way)
+    (told : List Event)
     (before after : List (List ℕ × ℕ)) (doing : Store ℕ → Option (Doing ℕ E)) → (way ≡ ways.Stuck → ⊥) → AreHeld p shapes permissions h.objects
     → ((things others : Things) → things.permissions ≡ permissions → store_by p shapes others before h ≡ store_by p shapes things before h
     → let s = store_by p shapes others before h in Comes f s (doing s) (leaves way told g (store_by p shapes others after k)))
@@ -32,10 +33,12 @@ MadeStaysHeld = (p : Program) (shapes : Shapes) (permissions : List perms.Permis
 
 -- By their numbers: those that objects hold are there.
 abbrev pub HeldByNumber : Type 0
-HeldByNumber = (p : Program) (shapes : Shapes) (permissions : List perms.Permission) (objects : List heaps.Object) → AreWithin (length permissions) objects
+HeldByNumber = (p : Program) (shapes : Shapes) (permissions : List perms.Permission) (objects : List heaps.Object)
+    → AreWithin (length permissions) objects
     → AreHeld p shapes permissions objects
 
 -- And so it is, where they are held.
 abbrev pub HeldWithin : Type 0
-HeldWithin = (p : Program) (shapes : Shapes) (permissions : List perms.Permission) (objects : List heaps.Object) → AreHeld p shapes permissions objects
+HeldWithin = (p : Program) (shapes : Shapes) (permissions : List perms.Permission) (objects : List heaps.Object)
+    → AreHeld p shapes permissions objects
     → AreWithin (length permissions) objects

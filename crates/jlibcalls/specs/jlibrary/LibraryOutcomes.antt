@@ -41,7 +41,8 @@ Does {E} shapes row h came told k = (p : Program) (things : Things) (constants :
 -- A constructor of a permission did what a row says, where these permissions were there, and has left those.
 abbrev pub Constructs : {E : Type 0} → (Store ℕ → Option (Row ℕ E)) → List perms.Permission → Heaped → Ran → List perms.Permission → Heaped → Type 0
 Constructs {E} row before h came after k =
-    (p : Program) (shapes : Shapes) (things : Things) (constants : List (List ℕ × ℕ)) → things.permissions ≡ before → AreHeld p shapes before h.objects
+    (p : Program) (shapes : Shapes) (things : Things) (constants : List (List ℕ × ℕ)) → things.permissions ≡ before
+    → AreHeld p shapes before h.objects
     → let s = store_by p shapes things constants h in
     rans.Comes {E = E} s (row s) (rans.leaves came [] (store_by p shapes (with_permissions after things) constants k))
 
@@ -52,7 +53,8 @@ CallDoes E shapes cwd thread call values before h came after k =
     (p : Program) (at : Site) (things : Things) (constants : List (List ℕ × ℕ))
     → at.cwd ≡ cwd → at.thread ≡ thread → things.permissions ≡ before → AreHeld p shapes before h.objects
     → let s = store_by p shapes things constants h in
-    rans.Comes {E = E} s (library at s call values) (rans.leaves came.ran (option_to_list came.told) (store_by p shapes (with_permissions after things) constants k))
+    rans.Comes {E = E} s (library at s call values)
+    (rans.leaves came.ran (option_to_list came.told) (store_by p shapes (with_permissions after things) constants k))
 
 -- what printed this text of a thread, if there was one
 abbrev pub came_by : (thread : ℕ) → Option (List ℕ) → Came
@@ -90,10 +92,12 @@ IsTelling call = ⊥
 abbrev pub Runs : {E : Type 0} → Shapes → (cwd : List ℕ) → (thread : ℕ) → LibCall → (count : ℕ)
     → FrameOf ℕ E → List perms.Permission → Heaped → Done → FrameOf ℕ E → List perms.Permission → Heaped → Type 0
 Runs {E} shapes cwd thread call count f before h done g after k =
-    (r : Rules ℕ E) (p : Program) (at : Site) (own : Member → Bool) (entries : List E) (inherited : Option ℕ) (things : Things) (constants : List (List ℕ × ℕ))
+    (r : Rules ℕ E) (p : Program) (at : Site) (own : Member → Bool) (entries : List E) (inherited : Option ℕ) (things : Things)
+    (constants : List (List ℕ × ℕ))
     → at.cwd ≡ cwd → at.thread ≡ thread → things.permissions ≡ before → AreHeld p shapes before h.objects
     → let s = store_by p shapes things constants h in
-    Comes f s (with_row r at own s entries inherited f (run r at own s entries inherited call) (record { values = take count f.operands; below = drop count f.operands }))
+    Comes f s (with_row r at own s entries inherited f (run r at own s entries inherited call)
+    (record { values = take count f.operands; below = drop count f.operands }))
     (leaves done.way (option_to_list done.told) g (store_by p shapes (with_permissions after things) constants k))
 
 -- Nothing is thrown but what is raised, of a class that can be thrown, and then the frame stands where it stood; one that goes on is of the

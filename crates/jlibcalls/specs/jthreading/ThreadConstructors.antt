@@ -71,5 +71,6 @@ MakesThread {E} kept count x g heap h after =
 
 -- The objects that are name no permission and no kept number that those before didn't: what made the same of those makes the same of these.
 abbrev pub NamesNoMore : (before after : List heaps.Object) → Type 0
-NamesNoMore before after = (p : Program) (shapes : Shapes) (things others : Things) → objects_by p shapes others before ≡ objects_by p shapes things before
+NamesNoMore before after = (p : Program) (shapes : Shapes) (things others : Things)
+    → objects_by p shapes others before ≡ objects_by p shapes things before
     → objects_by p shapes others after ≡ objects_by p shapes things after

@@ -34,7 +34,8 @@ CameTo r p plan g store threaded.Stuck h o = o ≡ NoStep
 abbrev pub thread_called : {E : Type 0} → Rules ℕ E → Program → Plan → State ℕ E → Framed E → ℕ → ThreadCall → Outcome (State ℕ E)
 thread_called r p plan s f count call =
     stepped r p plan s f count
-    (run r (site r p plan s f.newest f.below) (own_fields p f.newest.method) s.store (entries r p plan s (all f)) s.running.inherited (calls.Thread call))
+    (run r (site r p plan s f.newest f.below) (own_fields p f.newest.method) s.store (entries r p plan s (all f)) s.running.inherited
+    (calls.Thread call))
 
 -- A call of Thread did so, whatever the rules are and the store is that the heap stands for.
 abbrev pub CallsThread : {E : Type 0} → ThreadCall → ℕ → List ℕ → Heaped → Guests E → Threaded → Guests E → Type 0

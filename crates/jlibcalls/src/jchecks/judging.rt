@@ -74,7 +74,8 @@ fn deny<M: Copy, H: Handlers>(
     requires few { count ≤ length frames.old.newest.operands }
     requires stand { Stand (length marks.now) (all frames.old) }
     requires built { AreBuilt heap.old.objects }
-    ensures row { IfOk result (λ way. Judges marks.now (H.goes handlers.now) asked.now (verdicts.Denied domain) count frames.old heap.old way frames.new heap.new) }
+    ensures row { IfOk result
+        (λ way. Judges marks.now (H.goes handlers.now) asked.now (verdicts.Denied domain) count frames.old heap.old way frames.new heap.new) }
     ensures stand { OnOk result (LeavesStanding frames.old frames.new) }
     ensures heap { OnOk result (TellsHeap lib.AccessControlException (denial_message asked.now) heap.old heap.new) }
     ensures built { OnOk result (AreBuilt heap.new.objects) }

@@ -57,7 +57,8 @@ fn put_number(rows: &mut Vec<Seq<u32>>, class: u32, index: u16, number: u32)
 
 /// Puts the number of the constant at an index of a class's pool, where there is one.
 pub(crate) fn note(rows: &mut Vec<Seq<u32>>, class: u32, index: u16, number: Option<u32>)
-    ensures { (p : Program) (constants : List (List ℕ × ℕ)) → AreKnown p constants rows.old.items → IsObject p constants class index number → AreKnown p constants rows.new.items }
+    ensures { (p : Program) (constants : List (List ℕ × ℕ)) → AreKnown p constants rows.old.items → IsObject p constants class index number
+        → AreKnown p constants rows.new.items }
 {
     if let Some(o) = number {
         put_number(rows, class, index, o);

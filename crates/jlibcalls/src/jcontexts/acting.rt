@@ -51,7 +51,7 @@ fn leave_call<M: Copy>(
 
 /// Calls an action with a privilege, where its `run` is a user's method: the frame that calls loses so many operands and carries `caller`
 /// from now on, and a frame of the method begins, with the context, if there is one, and the action.
-#[tactic(auto, using(crate::proofs::JcontextsProofs::ActionCalls::without_code, crate::proofs::JcontextsProofs::ActionCalls::begun_so, crate::proofs::JcontextsProofs::ActionCalls::begun_stands))]
+#[tactic(auto, using(crate::proofs::JcontextsProofs::ActionCalls::without_code, crate::proofs::JcontextsProofs::ActionCalls::begun_so, crate::proofs::JcontextsProofs::ActionCalls::begun_stands,),)]
 pub fn act<M: Copy>(
     frames: &mut Frames<M>,
     callee: Callee<M>,

@@ -165,7 +165,7 @@ fn items_of(shapes: &Shapes, number: u32) -> CellType
 
 /// The permissions that limit a privilege, of the array that an operand names: null where the array or one of its items is, and no answer
 /// where it names something else, or one of the items before is something else. They are copied from those that the machine keeps.
-#[tactic(auto, using(crate::proofs::JcontextsProofs::ContextContents::is_there, crate::proofs::JcontextsProofs::PrivilegeLimits::null_array, crate::proofs::JcontextsProofs::PrivilegeLimits::no_array, crate::proofs::JcontextsProofs::PrivilegeLimits::an_array))]
+#[tactic(auto, using(crate::proofs::JcontextsProofs::ContextContents::is_there, crate::proofs::JcontextsProofs::PrivilegeLimits::null_array, crate::proofs::JcontextsProofs::PrivilegeLimits::no_array, crate::proofs::JcontextsProofs::PrivilegeLimits::an_array,),)]
 pub fn limits(
     alloc: Global,
     heap: &Heap,

@@ -53,7 +53,7 @@ fn first_frame<M: Copy>(
 
 /// The frames of a thread that begins with a user's method as the `run` of its Runnable, which isn't null: what it inherited is handed on
 /// on the passing side. None where there is no step.
-#[tactic(auto, using(crate::proofs::JcontextsProofs::ThreadEntries::without_code, crate::proofs::JcontextsProofs::ThreadEntries::begins_so, crate::proofs::JcontextsProofs::ThreadEntries::begun_stands))]
+#[tactic(auto, using(crate::proofs::JcontextsProofs::ThreadEntries::without_code, crate::proofs::JcontextsProofs::ThreadEntries::begins_so, crate::proofs::JcontextsProofs::ThreadEntries::begun_stands,),)]
 pub fn begin<M: Copy>(
     alloc: Global,
     callee: Callee<M>,
@@ -94,7 +94,7 @@ pub fn fail_beginning<M>(alloc: Global, heap: &mut Heap, class: Thrown) -> Resul
 
 /// The laws of threads that begin: one without a Runnable ends, one is stuck whose Runnable is no object, or has its `run` from the
 /// library, and none asks anything of access control. They have no body to run; the contract is the laws.
-#[tactic(auto, using(crate::proofs::JcontextsProofs::ThreadEntries::ends_unbegun, crate::proofs::JcontextsProofs::ThreadEntries::stuck_unbegun, crate::proofs::JcontextsProofs::ThreadEntries::asks_nothing))]
+#[tactic(auto, using(crate::proofs::JcontextsProofs::ThreadEntries::ends_unbegun, crate::proofs::JcontextsProofs::ThreadEntries::stuck_unbegun, crate::proofs::JcontextsProofs::ThreadEntries::asks_nothing,),)]
 pub fn begin_laws<M>()
     ensures ends { EndsUnbegun M }
     ensures stuck { StuckUnbegun M }

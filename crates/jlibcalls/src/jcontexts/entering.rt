@@ -20,7 +20,7 @@ pub struct Entering {
 }
 
 /// What two operands tell of a method that is entered.
-#[tactic(auto, using(crate::proofs::JcontextsProofs::ContextOperands::told_so, crate::proofs::JcontextsProofs::ContextOperands::untold, crate::proofs::JcontextsProofs::ContextOperands::without))]
+#[tactic(auto, using(crate::proofs::JcontextsProofs::ContextOperands::told_so, crate::proofs::JcontextsProofs::ContextOperands::untold, crate::proofs::JcontextsProofs::ContextOperands::without,),)]
 fn entering_of<M: Copy>(frames: &Frames<M>) -> Option<Entering>
     requires { 2 ≤ length frames.now.newest.operands }
     ensures { result ≡ entering_with (take 2 frames.now.newest.operands) }
@@ -80,7 +80,7 @@ fn snapshot_ctx<M: Copy>(frames: &Frames<M>) -> Option<Option<u64>>
 }
 
 /// The same on a side, with so many operands.
-#[tactic(auto, using(crate::proofs::JcontextsProofs::ContextOperands::no_operands, crate::proofs::JcontextsProofs::ContextOperands::source_others, crate::proofs::JcontextsProofs::ContextOperands::passing_others))]
+#[tactic(auto, using(crate::proofs::JcontextsProofs::ContextOperands::no_operands, crate::proofs::JcontextsProofs::ContextOperands::source_others, crate::proofs::JcontextsProofs::ContextOperands::passing_others,),)]
 fn snapshot_told<M: Copy>(frames: &Frames<M>, side: Side, count: usize) -> Option<Option<u64>>
     requires { count ≤ length frames.now.newest.operands }
     ensures { result ≡ snapshot_with side (take count frames.now.newest.operands) }

@@ -82,7 +82,7 @@ pub(crate) fn context_in(value: Value) -> Option<u64>
 }
 
 /// What a call on the source side is given, whose operands are there.
-#[tactic(auto, using(crate::proofs::JcontextsProofs::PrivilegedArguments::source_alone, crate::proofs::JcontextsProofs::PrivilegedArguments::source_within, crate::proofs::JcontextsProofs::PrivilegedArguments::source_limited))]
+#[tactic(auto, using(crate::proofs::JcontextsProofs::PrivilegedArguments::source_alone, crate::proofs::JcontextsProofs::PrivilegedArguments::source_within, crate::proofs::JcontextsProofs::PrivilegedArguments::source_limited,),)]
 fn source_request<M: Copy>(frames: &Frames<M>, form: PrivilegedForm) -> Request
     requires { taken_by sides.Source form ≤ length frames.now.newest.operands }
     ensures { Some result ≡ requested sides.Source form (take (taken_by sides.Source form) frames.now.newest.operands) }
@@ -111,7 +111,7 @@ fn source_request<M: Copy>(frames: &Frames<M>, form: PrivilegedForm) -> Request
 }
 
 /// What a call of an action on the passing side is given, whose operands are there.
-#[tactic(auto, using(crate::proofs::JcontextsProofs::PrivilegedArguments::passing_alone, crate::proofs::JcontextsProofs::PrivilegedArguments::alone_untold))]
+#[tactic(auto, using(crate::proofs::JcontextsProofs::PrivilegedArguments::passing_alone, crate::proofs::JcontextsProofs::PrivilegedArguments::alone_untold,),)]
 fn passing_alone<M: Copy>(frames: &Frames<M>) -> Option<Request>
     requires { 2 ≤ length frames.now.newest.operands }
     ensures { result ≡ requested sides.Passing forms.Alone (take 2 frames.now.newest.operands) }
@@ -127,7 +127,7 @@ fn passing_alone<M: Copy>(frames: &Frames<M>) -> Option<Request>
 }
 
 /// What one of an action and a context is given.
-#[tactic(auto, using(crate::proofs::JcontextsProofs::PrivilegedArguments::passing_within, crate::proofs::JcontextsProofs::PrivilegedArguments::within_untold))]
+#[tactic(auto, using(crate::proofs::JcontextsProofs::PrivilegedArguments::passing_within, crate::proofs::JcontextsProofs::PrivilegedArguments::within_untold,),)]
 fn passing_within<M: Copy>(frames: &Frames<M>) -> Option<Request>
     requires { 3 ≤ length frames.now.newest.operands }
     ensures { result ≡ requested sides.Passing forms.Within (take 3 frames.now.newest.operands) }
@@ -143,7 +143,7 @@ fn passing_within<M: Copy>(frames: &Frames<M>) -> Option<Request>
 }
 
 /// What one of an action, a context and permissions is given.
-#[tactic(auto, using(crate::proofs::JcontextsProofs::PrivilegedArguments::passing_limited, crate::proofs::JcontextsProofs::PrivilegedArguments::limited_untold, crate::proofs::JcontextsProofs::PrivilegedArguments::limited_without))]
+#[tactic(auto, using(crate::proofs::JcontextsProofs::PrivilegedArguments::passing_limited, crate::proofs::JcontextsProofs::PrivilegedArguments::limited_untold, crate::proofs::JcontextsProofs::PrivilegedArguments::limited_without,),)]
 fn passing_limited<M: Copy>(frames: &Frames<M>) -> Option<Request>
     requires { 5 ≤ length frames.now.newest.operands }
     ensures { result ≡ requested sides.Passing forms.Limited (take 5 frames.now.newest.operands) }

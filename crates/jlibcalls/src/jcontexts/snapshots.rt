@@ -29,7 +29,7 @@ fn is_last(kept: &[u64], number: u64) -> bool
 }
 
 /// The place, from 1, of a number among those that are kept, which it is put behind if it isn't the last of them.
-#[tactic(auto, using(crate::proofs::JcontextsProofs::SnapshotStability::stays_there, crate::proofs::JcontextsProofs::SnapshotStability::stands_behind))]
+#[tactic(auto, using(crate::proofs::JcontextsProofs::SnapshotStability::stays_there, crate::proofs::JcontextsProofs::SnapshotStability::stands_behind),)]
 fn keep(kept: &mut Seq<u64>, number: u64) -> Result<u32, AllocError>
     ensures { IfOk result (λ place. IsKeptAt number kept.old place kept.new) }
 {
@@ -72,7 +72,8 @@ pub(crate) fn give<M: Copy>(
 ) -> Result<(), AllocError>
     requires few { count ≤ length frames.old.newest.operands }
     requires place { frames.old.newest.place + 1 < 2 ^ 32 }
-    ensures { OnOk result (frames.new ≡ with_newest (onward (holding (drop count frames.old.newest.operands) frames.old).newest (value ∷ [])) frames.old) }
+    ensures { OnOk result
+        (frames.new ≡ with_newest (onward (holding (drop count frames.old.newest.operands) frames.old).newest (value ∷ [])) frames.old) }
 {
     frames.shrink(count);
     frames.push(value)?;

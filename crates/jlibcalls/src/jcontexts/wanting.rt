@@ -92,7 +92,7 @@ fn by_context<M>(
 }
 
 /// The same, by what the array of permissions is.
-#[tactic(auto, using(crate::proofs::JcontextsProofs::PrivilegedCalls::no_limits, crate::proofs::JcontextsProofs::PrivilegedCalls::null_limits, crate::proofs::JcontextsProofs::PrivilegedCalls::some_limits))]
+#[tactic(auto, using(crate::proofs::JcontextsProofs::PrivilegedCalls::no_limits, crate::proofs::JcontextsProofs::PrivilegedCalls::null_limits, crate::proofs::JcontextsProofs::PrivilegedCalls::some_limits,),)]
 fn by_limits<M>(
     heap: &Heap,
     kept: &[u64],
@@ -115,7 +115,7 @@ fn by_limits<M>(
 }
 
 /// What a request wants.
-#[tactic(auto, using(crate::proofs::JcontextsProofs::PrivilegedCalls::alone_wants, crate::proofs::JcontextsProofs::PrivilegedCalls::within_wants, crate::proofs::JcontextsProofs::PrivilegedCalls::limited_wants))]
+#[tactic(auto, using(crate::proofs::JcontextsProofs::PrivilegedCalls::alone_wants, crate::proofs::JcontextsProofs::PrivilegedCalls::within_wants, crate::proofs::JcontextsProofs::PrivilegedCalls::limited_wants,),)]
 fn by_request<M>(
     alloc: Global,
     heap: &Heap,

@@ -14,7 +14,8 @@ use std::alloc::AllocError;
 fn give<M: Copy>(frames: &mut Frames<M>, count: usize, value: Value) -> Result<(), AllocError>
     requires place { frames.old.newest.place + 1 < 2 ^ 32 }
     requires few { count ≤ length frames.old.newest.operands }
-    ensures { OnOk result (frames.new ≡ with_newest (onward (with_operands frames.old.newest (drop count frames.old.newest.operands)) (value ∷ [])) frames.old) }
+    ensures { OnOk result
+        (frames.new ≡ with_newest (onward (with_operands frames.old.newest (drop count frames.old.newest.operands)) (value ∷ [])) frames.old) }
 {
     frames.shrink(count);
     frames.push(value)?;

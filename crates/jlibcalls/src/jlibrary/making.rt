@@ -71,8 +71,10 @@ fn hold<M>(
 ) -> Result<Ran, AllocError>
     requires built { AreBuilt heap.old.objects }
     requires cell { HasHolder heap.old o }
-    ensures row { IfOk result (λ ran. Constructs {E = M} (λ s. constructed s o (Ok permission)) permissions.old heap.old ran permissions.new heap.new) }
-    ensures held { OnOk result ((p : Program) (shapes : Shapes) → AreHeld p shapes permissions.old heap.old.objects → AreHeld p shapes permissions.new heap.new.objects) }
+    ensures row { IfOk result
+        (λ ran. Constructs {E = M} (λ s. constructed s o (Ok permission)) permissions.old heap.old ran permissions.new heap.new) }
+    ensures held { OnOk result
+        ((p : Program) (shapes : Shapes) → AreHeld p shapes permissions.old heap.old.objects → AreHeld p shapes permissions.new heap.new.objects) }
     ensures built { OnOk result (AreBuilt heap.new.objects) }
     ensures celled { OnOk result (StayCelled heap.old.objects heap.new.objects) }
 {
@@ -124,7 +126,8 @@ pub(crate) fn construct<M>(
     requires cell { HasHolder heap.old o }
     ensures row { IfOk result (λ ran. Constructs {E = M} (λ s. made_in s cwd.now init
         (record { name = name; actions = actions; object = o })) permissions.old heap.old ran permissions.new heap.new) }
-    ensures held { OnOk result ((p : Program) (shapes : Shapes) → AreHeld p shapes permissions.old heap.old.objects → AreHeld p shapes permissions.new heap.new.objects) }
+    ensures held { OnOk result
+        ((p : Program) (shapes : Shapes) → AreHeld p shapes permissions.old heap.old.objects → AreHeld p shapes permissions.new heap.new.objects) }
     ensures built { OnOk result (AreBuilt heap.new.objects) }
     ensures celled { OnOk result (StayCelled heap.old.objects heap.new.objects) }
 {

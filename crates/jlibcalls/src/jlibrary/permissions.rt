@@ -45,8 +45,10 @@ fn bare<M>(
 ) -> Result<Ran, AllocError>
     requires built { AreBuilt heap.old.objects }
     requires cell { (o : ℕ) → HasHolder heap.old o }
-    ensures row { IfOk result (λ ran. Constructs {E = M} (λ s. init_row s cwd.now init (object ∷ [])) permissions.old heap.old ran permissions.new heap.new) }
-    ensures held { OnOk result ((p : Program) (shapes : Shapes) → AreHeld p shapes permissions.old heap.old.objects → AreHeld p shapes permissions.new heap.new.objects) }
+    ensures row { IfOk result
+        (λ ran. Constructs {E = M} (λ s. init_row s cwd.now init (object ∷ [])) permissions.old heap.old ran permissions.new heap.new) }
+    ensures held { OnOk result
+        ((p : Program) (shapes : Shapes) → AreHeld p shapes permissions.old heap.old.objects → AreHeld p shapes permissions.new heap.new.objects) }
     ensures built { OnOk result (AreBuilt heap.new.objects) }
     ensures celled { OnOk result (StayCelled heap.old.objects heap.new.objects) }
 {
@@ -68,8 +70,10 @@ fn named<M>(
 ) -> Result<Ran, AllocError>
     requires built { AreBuilt heap.old.objects }
     requires cell { (o : ℕ) → HasHolder heap.old o }
-    ensures row { IfOk result (λ ran. Constructs {E = M} (λ s. init_row s cwd.now init (name ∷ object ∷ [])) permissions.old heap.old ran permissions.new heap.new) }
-    ensures held { OnOk result ((p : Program) (shapes : Shapes) → AreHeld p shapes permissions.old heap.old.objects → AreHeld p shapes permissions.new heap.new.objects) }
+    ensures row { IfOk result
+        (λ ran. Constructs {E = M} (λ s. init_row s cwd.now init (name ∷ object ∷ [])) permissions.old heap.old ran permissions.new heap.new) }
+    ensures held { OnOk result
+        ((p : Program) (shapes : Shapes) → AreHeld p shapes permissions.old heap.old.objects → AreHeld p shapes permissions.new heap.new.objects) }
     ensures built { OnOk result (AreBuilt heap.new.objects) }
     ensures celled { OnOk result (StayCelled heap.old.objects heap.new.objects) }
 {
@@ -96,8 +100,11 @@ fn named_with<M>(
 ) -> Result<Ran, AllocError>
     requires built { AreBuilt heap.old.objects }
     requires cell { (o : ℕ) → HasHolder heap.old o }
-    ensures row { IfOk result (λ ran. Constructs {E = M} (λ s. init_row s cwd.now init (actions ∷ name ∷ object ∷ [])) permissions.old heap.old ran permissions.new heap.new) }
-    ensures held { OnOk result ((p : Program) (shapes : Shapes) → AreHeld p shapes permissions.old heap.old.objects → AreHeld p shapes permissions.new heap.new.objects) }
+    ensures row { IfOk result
+        (λ ran. Constructs {E = M}
+        (λ s. init_row s cwd.now init (actions ∷ name ∷ object ∷ [])) permissions.old heap.old ran permissions.new heap.new) }
+    ensures held { OnOk result
+        ((p : Program) (shapes : Shapes) → AreHeld p shapes permissions.old heap.old.objects → AreHeld p shapes permissions.new heap.new.objects) }
     ensures built { OnOk result (AreBuilt heap.new.objects) }
     ensures celled { OnOk result (StayCelled heap.old.objects heap.new.objects) }
 {
@@ -131,7 +138,8 @@ fn with_name<M: Copy>(
     requires cell { (o : ℕ) → HasHolder heap.old o }
     ensures row { IfOk result (λ ran. Constructs {E = M} (λ s. init_row s cwd.now init
         (take count frames.now.newest.operands)) permissions.old heap.old ran permissions.new heap.new) }
-    ensures held { OnOk result ((p : Program) (shapes : Shapes) → AreHeld p shapes permissions.old heap.old.objects → AreHeld p shapes permissions.new heap.new.objects) }
+    ensures held { OnOk result
+        ((p : Program) (shapes : Shapes) → AreHeld p shapes permissions.old heap.old.objects → AreHeld p shapes permissions.new heap.new.objects) }
     ensures built { OnOk result (AreBuilt heap.new.objects) }
     ensures celled { OnOk result (StayCelled heap.old.objects heap.new.objects) }
 {
@@ -161,7 +169,8 @@ pub(crate) fn permission_init<M: Copy>(
     requires cell { (o : ℕ) → HasHolder heap.old o }
     ensures row { IfOk result (λ ran. Constructs {E = M} (λ s. init_row s cwd.now init
         (take count frames.now.newest.operands)) permissions.old heap.old ran permissions.new heap.new) }
-    ensures held { OnOk result ((p : Program) (shapes : Shapes) → AreHeld p shapes permissions.old heap.old.objects → AreHeld p shapes permissions.new heap.new.objects) }
+    ensures held { OnOk result
+        ((p : Program) (shapes : Shapes) → AreHeld p shapes permissions.old heap.old.objects → AreHeld p shapes permissions.new heap.new.objects) }
     ensures built { OnOk result (AreBuilt heap.new.objects) }
     ensures celled { OnOk result (StayCelled heap.old.objects heap.new.objects) }
 {

@@ -65,7 +65,8 @@ pub(crate) fn print_nothing<M: Copy>(
     count: usize,
 ) -> Came
     requires { count ≤ length frames.now.newest.operands }
-    ensures { (s : Store ℕ) → Comes {E = M} s (end_row s thread (take count frames.now.newest.operands)) (leaves result.ran (option_to_list result.told) s) }
+    ensures { (s : Store ℕ) → Comes {E = M} s (end_row s thread (take count frames.now.newest.operands))
+        (leaves result.ran (option_to_list result.told) s) }
 {
     match one(frames, count) {
         None => printed(thread, None),

@@ -44,7 +44,8 @@ pub(crate) fn row<M: Copy>(
     requires few { count ≤ length frames.now.newest.operands }
     requires built { AreBuilt heap.old.objects }
     requires celled { AreCelled fixed.now.shapes.now heap.old.objects }
-    requires told { IsTelling call → (v : Held ℕ) → receiver (take count frames.now.newest.operands) ≡ Some v → MayBeTold fixed.now.shapes.now heap.old v }
+    requires told { IsTelling call → (v : Held ℕ) → receiver (take count frames.now.newest.operands) ≡ Some v
+        → MayBeTold fixed.now.shapes.now heap.old v }
     ensures row { IfOk result (λ came. CallDoes M fixed.now.shapes.now fixed.now.cwd.now fixed.now.thread call (take count frames.now.newest.operands)
         permissions.old heap.old came permissions.new heap.new) }
     ensures held { OnOk result ((p : Program) → AreHeld p fixed.now.shapes.now permissions.old heap.old.objects

@@ -59,7 +59,8 @@ pub fn run<M: Copy>(
     requires few { count ≤ length frames.old.newest.operands }
     requires built { AreBuilt heap.old.objects }
     requires celled { AreCelled fixed.now.shapes.now heap.old.objects }
-    requires told { IsTelling call → (v : Held ℕ) → receiver (take count frames.old.newest.operands) ≡ Some v → MayBeTold fixed.now.shapes.now heap.old v }
+    requires told { IsTelling call → (v : Held ℕ) → receiver (take count frames.old.newest.operands) ≡ Some v
+        → MayBeTold fixed.now.shapes.now heap.old v }
     ensures row { IfOk result (λ done. Runs fixed.now.shapes.now fixed.now.cwd.now fixed.now.thread call count frames.old.newest
         permissions.old heap.old done frames.new.newest permissions.new heap.new) }
     ensures stays { IfOk result (λ done. (p : Program) → AreHeld p fixed.now.shapes.now permissions.old heap.old.objects

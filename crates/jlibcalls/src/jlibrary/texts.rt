@@ -23,7 +23,8 @@ use std::alloc::{AllocError, Global};
 #[inline]
 fn string_length<M: Copy>(frames: &Frames<M>, heap: &Heap, count: usize) -> Ran
     requires few { count ≤ len frames.now.newest.operands }
-    ensures { (shapes : Shapes) → Does {E = M} shapes (λ s. string_row s calls.Length (take count frames.now.newest.operands)) heap.now result [] heap.now }
+    ensures { (shapes : Shapes) → Does {E = M} shapes (λ s. string_row s calls.Length (take count frames.now.newest.operands)) heap.now result
+        [] heap.now }
 {
     heap.small();
     match one(frames, count) {
@@ -49,7 +50,8 @@ fn unit_at<M>(heap: &Heap, index: Value, text: Value) -> Ran
 #[inline]
 fn string_unit<M: Copy>(frames: &Frames<M>, heap: &Heap, count: usize) -> Ran
     requires few { count ≤ len frames.now.newest.operands }
-    ensures { (shapes : Shapes) → Does {E = M} shapes (λ s. string_row s calls.CharAt (take count frames.now.newest.operands)) heap.now result [] heap.now }
+    ensures { (shapes : Shapes) → Does {E = M} shapes (λ s. string_row s calls.CharAt (take count frames.now.newest.operands)) heap.now result
+        [] heap.now }
 {
     match two(frames, count) {
         None => Ran::Stuck,
@@ -61,7 +63,8 @@ fn string_unit<M: Copy>(frames: &Frames<M>, heap: &Heap, count: usize) -> Ran
 #[inline]
 fn string_equals<M: Copy>(frames: &Frames<M>, heap: &Heap, count: usize) -> Ran
     requires few { count ≤ len frames.now.newest.operands }
-    ensures { (shapes : Shapes) → Does {E = M} shapes (λ s. string_row s calls.Equals (take count frames.now.newest.operands)) heap.now result [] heap.now }
+    ensures { (shapes : Shapes) → Does {E = M} shapes (λ s. string_row s calls.Equals (take count frames.now.newest.operands)) heap.now result
+        [] heap.now }
 {
     match two(frames, count) {
         None => Ran::Stuck,
@@ -79,7 +82,9 @@ fn string_concat<M: Copy>(
 ) -> Result<Ran, AllocError>
     requires few { count ≤ len frames.now.newest.operands }
     requires built { AreBuilt heap.old.objects }
-    ensures row { IfOk result (λ ran. (shapes : Shapes) → Does {E = M} shapes (λ s. string_row s calls.Concat (take count frames.now.newest.operands)) heap.old ran [] heap.new) }
+    ensures row { IfOk result
+        (λ ran. (shapes : Shapes) → Does {E = M} shapes (λ s. string_row s calls.Concat (take count frames.now.newest.operands)) heap.old ran
+        [] heap.new) }
     ensures built { OnOk result (AreBuilt heap.new.objects) }
     ensures celled { OnOk result (StayCelled heap.old.objects heap.new.objects) }
 {
@@ -99,7 +104,8 @@ pub(crate) fn string<M: Copy>(
 ) -> Result<Ran, AllocError>
     requires few { count ≤ len frames.now.newest.operands }
     requires built { AreBuilt heap.old.objects }
-    ensures row { IfOk result (λ ran. (shapes : Shapes) → Does {E = M} shapes (λ s. string_row s call (take count frames.now.newest.operands)) heap.old ran [] heap.new) }
+    ensures row { IfOk result
+        (λ ran. (shapes : Shapes) → Does {E = M} shapes (λ s. string_row s call (take count frames.now.newest.operands)) heap.old ran [] heap.new) }
     ensures built { OnOk result (AreBuilt heap.new.objects) }
     ensures celled { OnOk result (StayCelled heap.old.objects heap.new.objects) }
 {
@@ -117,7 +123,8 @@ fn builder_empty<M: Copy>(frames: &Frames<M>, heap: &mut Heap, count: usize) -> 
     requires few { count ≤ len frames.now.newest.operands }
     requires built { AreBuilt heap.old.objects }
     requires cells { (v : Held ℕ) → HasLast heap.old v }
-    ensures row { (shapes : Shapes) → Does {E = M} shapes (λ s. builder_row s builders.Init (take count frames.now.newest.operands)) heap.old result [] heap.new }
+    ensures row { (shapes : Shapes) → Does {E = M} shapes (λ s. builder_row s builders.Init (take count frames.now.newest.operands)) heap.old result
+        [] heap.new }
     ensures built { AreBuilt heap.new.objects }
     ensures celled { StayCelled heap.old.objects heap.new.objects }
 {
@@ -202,7 +209,8 @@ pub(crate) fn builder<M: Copy>(
     requires few { count ≤ len frames.now.newest.operands }
     requires built { AreBuilt heap.old.objects }
     requires cells { (v : Held ℕ) → HasLast heap.old v }
-    ensures row { IfOk result (λ ran. (shapes : Shapes) → Does {E = M} shapes (λ s. builder_row s call (take count frames.now.newest.operands)) heap.old ran [] heap.new) }
+    ensures row { IfOk result
+        (λ ran. (shapes : Shapes) → Does {E = M} shapes (λ s. builder_row s call (take count frames.now.newest.operands)) heap.old ran [] heap.new) }
     ensures built { OnOk result (AreBuilt heap.new.objects) }
     ensures celled { OnOk result (StayCelled heap.old.objects heap.new.objects) }
 {

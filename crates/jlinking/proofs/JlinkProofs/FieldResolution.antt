@@ -312,7 +312,7 @@ element_plain p t x clear e = by (t.base == byte "L") e
         ap says.is_context (sym c.2) ∙ ap (λ (n : Name). bytes_eq n.0 context) (sym same) ∙ clear
     by false e = letter_plain t.base t.class x clear e
 
-alone_plain : (depth : ℕ) (x : Element) → is_plain (in_brackets depth x) ≡ true
+pub alone_plain : (depth : ℕ) (x : Element) → is_plain (in_brackets depth x) ≡ true
 alone_plain zero elements.Boolean = refl
 alone_plain zero elements.Char = refl
 alone_plain zero elements.Byte = refl
@@ -344,7 +344,7 @@ held_plain p enter (Some (descriptors.Field ft)) t clear e = named_plain p ft t 
 
 -- ---- the tests of its use
 
-differs_not : (a b : Bool) → differs a b ≡ false → b ≡ a
+pub differs_not : (a b : Bool) → differs a b ≡ false → b ≡ a
 differs_not true true e = refl
 differs_not true false e = absurd cc
 differs_not false true e = absurd cc

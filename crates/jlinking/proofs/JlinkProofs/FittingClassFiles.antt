@@ -49,6 +49,7 @@ use Rattle.jresolution.specs.declared.jprogram.part.CodePart.{CodePart}
 use Rattle.jlinking.specs.jlink.ProgramFiles.{IsFile}
 use Rattle.jlinking.proofs.JlinkProofs.PresentValues.{first_in}
 use Rattle.jparts.specs.jpool.PoolEntries.{utf8_parts}
+use Rattle.jresolution.proofs.JprogramProofs.MemberCounts.{tail_fields}
 
 -- ---- instructions
 
@@ -169,15 +170,6 @@ method_desc c m fit is =
     method_reads (most_slots m.flags) m.desc c.pool (utf8_at c.pool m.desc) refl (method_good c.pool m good)
 
 -- ---- fields
-
-tail_fields : (pool : List Entry) (t : TailParts) → IsTrue ((tail pool).fits t) → IsTrue ((counted u2 (field pool)).fits t.1.1.1.1.0)
-unfolding tail
-tail_fields pool t fit =
-    let a = second_true (access.fits t.0) ((index (names_class pool) · index (names_super pool) · counted u2 (index (names_class pool)) · counted u2 (field pool) · counted u2 (method pool) · counted u2 (class_attribute pool)).fits t.1) fit in
-    let b = second_true ((index (names_class pool)).fits t.1.0) ((index (names_super pool) · counted u2 (index (names_class pool)) · counted u2 (field pool) · counted u2 (method pool) · counted u2 (class_attribute pool)).fits t.1.1) a in
-    let c = second_true ((index (names_super pool)).fits t.1.1.0) ((counted u2 (index (names_class pool)) · counted u2 (field pool) · counted u2 (method pool) · counted u2 (class_attribute pool)).fits t.1.1.1) b in
-    let d = second_true ((counted u2 (index (names_class pool))).fits t.1.1.1.0) ((counted u2 (field pool) · counted u2 (method pool) · counted u2 (class_attribute pool)).fits t.1.1.1.1) c in
-    first_true ((counted u2 (field pool)).fits t.1.1.1.1.0) ((counted u2 (method pool) · counted u2 (class_attribute pool)).fits t.1.1.1.1.1) d
 
 fields_fit : (c : ClassParts) → IsTrue (class_file.fits c) → IsTrue (list_all (field c.pool).fits c.fields)
 fields_fit c fit = first_true (list_all (field c.pool).fits c.fields) (u2.fits (length c.fields)) (tail_fields c.pool (class_parts c).1 (tail_fits c fit))

@@ -106,7 +106,7 @@ each_found : (q : Member → Type 0) (f : List ℕ → Option Member) → ((c : 
 each_found q f h [] = tt
 each_found q f h (c ∷ names) = each_cons q (f c) (filter_map f names) (λ x e. h c x e) (each_found q f h names)
 
-either_is : (q : Member → Type 0) (b : Bool) (m x : Member) (rest : Option Member) → q m → (rest ≡ Some x → q x) → (if b then Some m else rest) ≡ Some x → q x
+pub either_is : (q : Member → Type 0) (b : Bool) (m x : Member) (rest : Option Member) → q m → (rest ≡ Some x → q x) → (if b then Some m else rest) ≡ Some x → q x
 either_is q true m x rest one h e =
     let same : m ≡ x = cc in
     subst q same one

@@ -146,7 +146,8 @@ methods_above p c name desc = methods_along p name desc (names_above p c)
 -- the class stands at place i, and the method at place k of its methods
 unfoldable pub final_test : Program → ℕ → ClassParts → ℕ → MemberInfo → Option LinkKind
 final_test p i c k m =
-    fault_if (not (bytes_eq (member_name c m) init) && overrides_final p (Method (method_id i k)) [] (methods_above p c (member_name c m) (member_desc c m))) FinalMethod
+    fault_if (not (bytes_eq (member_name c m) init) && overrides_final p (Method (method_id i k)) []
+    (methods_above p c (member_name c m) (member_desc c m))) FinalMethod
 
 -- ---- the phase
 

@@ -19,4 +19,5 @@ pair_of pool name desc = (number_of pool (text pool name), number_of pool (text 
 
 -- a set has the names and descriptors of these members
 abbrev pub HasMet : ClassParts → List MemberInfo → BTreeSet (ℕ × ℕ) → Type 0
-HasMet c members met = (name desc : ℕ) → contains pair_cmp met (pair_of c.pool name desc) ≡ list_any (is_called c (text c.pool name) (text c.pool desc)) members
+HasMet c members met = (name desc : ℕ) → contains pair_cmp met (pair_of c.pool name desc)
+    ≡ list_any (is_called c (text c.pool name) (text c.pool desc)) members

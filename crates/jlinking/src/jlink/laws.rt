@@ -30,7 +30,8 @@ pub fn selection_law()
 pub fn instruction_laws()
     ensures means { (p : Program) (m : MethodId) (body : CodeBody) (i : ℕ) → Links p → AreFiles p → code_at p m ≡ Some body → i < length body.ops
         → IsSome (instruction_at p m i) }
-    ensures leads { (p : Program) (m : MethodId) (body : CodeBody) (i : ℕ) (one : Instruction) → code_at p m ≡ Some body → instruction_at p m i ≡ Some one
+    ensures leads { (p : Program) (m : MethodId) (body : CodeBody) (i : ℕ) (one : Instruction) → code_at p m ≡ Some body
+        → instruction_at p m i ≡ Some one
         → LeadsWithin body one }
 {}
 
@@ -38,14 +39,16 @@ pub fn instruction_laws()
 /// class which the class extends by which the field is named; none holds a security context (JVMS 5.4.3.2, 6.5: getfield, putfield,
 /// getstatic, putstatic).
 pub fn field_law()
-    ensures { (p : Program) (m : MethodId) (i : ℕ) (op : FieldOp) (f : FieldMeaning) → Links p → instruction_at p m i ≡ Some (Used (meanings.Field op f))
+    ensures { (p : Program) (m : MethodId) (i : ℕ) (op : FieldOp) (f : FieldMeaning) → Links p
+        → instruction_at p m i ≡ Some (Used (meanings.Field op f))
         → IsNamedField p op f }
 {}
 
 /// The law of calls, in a program that links: an instruction that doesn't call a constructor names none, and where it calls one of the
 /// library's, this is that of the class by which it is named (JVMS 5.4.3.3, 6.5: invokespecial).
 pub fn call_law()
-    ensures { (p : Program) (m : MethodId) (i : ℕ) (by : InvokeKind) (c : CallMeaning) → Links p → instruction_at p m i ≡ Some (Used (meanings.Call by c))
+    ensures { (p : Program) (m : MethodId) (i : ℕ) (by : InvokeKind) (c : CallMeaning) → Links p
+        → instruction_at p m i ≡ Some (Used (meanings.Call by c))
         → IsNamedCall p by c }
 {}
 

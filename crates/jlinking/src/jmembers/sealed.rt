@@ -54,7 +54,8 @@ fn overrides(
     shown: &BTreeMap<Vec<u8>, usize>,
     above: Member,
 ) -> bool
-    ensures { result ≡ OverrideChains.overrides_by program.now below (has shown.now (ClassFileParts.package_of (MemberResolution.owner_of program.now above))) above }
+    ensures { result ≡ OverrideChains.overrides_by program.now below
+        (has shown.now (ClassFileParts.package_of (MemberResolution.owner_of program.now above))) above }
 {
     if !is_instance(program, below) {
         return false;

@@ -48,7 +48,7 @@ fn frames_test(
 }
 
 /// The first fault of a method, None where it has no code.
-#[tactic(auto, unfolding(crate::specs::jreferring::CodeChecks::method_test, jresolution::specs::jprogram::ClassFileParts::code_of, jground::specs::jbase::FirstFaults::first_some))]
+#[tactic(auto, unfolding(crate::specs::jreferring::CodeChecks::method_test, jresolution::specs::jprogram::ClassFileParts::code_of, jground::specs::jbase::FirstFaults::first_some,),)]
 fn method_test(
     alloc: Global,
     home: Home<'_>,

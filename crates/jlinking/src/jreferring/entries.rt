@@ -66,7 +66,7 @@ fn named_use(
 }
 
 /// What a reference may be used for that isn't one to a Class entry and a NameAndType entry.
-#[tactic(auto, using(crate::proofs::JreferringProofs::IndexedReferences::reference_named, crate::proofs::JreferringProofs::IndexedReferences::reference_nameless))]
+#[tactic(auto, using(crate::proofs::JreferringProofs::IndexedReferences::reference_named, crate::proofs::JreferringProofs::IndexedReferences::reference_nameless,),)]
 fn odd_reference(
     alloc: Global,
     home: Home<'_>,
@@ -101,7 +101,8 @@ fn reference(
 ) -> Result<MemberUse, AllocError>
     requires layered { IsLayered home.program.now }
     requires known { AreKnown home.program.now home.from.now home.pool.now known.old }
-    ensures value { IfOk result (λ u. u ≡ PoolEntryMeanings.reference home.entry.program.now home.entry.from.now home.entry.pool.now sort class both) }
+    ensures value { IfOk result
+        (λ u. u ≡ PoolEntryMeanings.reference home.entry.program.now home.entry.from.now home.entry.pool.now sort class both) }
     ensures kept { OnOk result (AreKnown home.entry.program.now home.entry.from.now home.entry.pool.now known.new) }
 {
     let Some(at) = Indices::of(home.pool, class, both) else {
@@ -172,7 +173,8 @@ fn judge(
 
 fn judge_all(alloc: Global, home: Home<'_>, entries: &[Entry]) -> Result<Vec<Judged>, AllocError>
     requires { IsLayered home.program.now }
-    ensures { IfOk result (λ table. table.items ≡ map (PoolEntryMeanings.judge home.entry.program.now home.entry.from.now home.entry.pool.now) entries.now) }
+    ensures { IfOk result
+        (λ table. table.items ≡ map (PoolEntryMeanings.judge home.entry.program.now home.entry.from.now home.entry.pool.now) entries.now) }
 {
     let mut known = nothing(alloc);
     let mut table = Vec::new(alloc);

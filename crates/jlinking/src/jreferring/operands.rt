@@ -52,7 +52,7 @@ fn ref_unmade(program: &NamedProgram, class: ClassRef) -> bool
 }
 
 /// Whether the class of a name is abstract or an interface.
-#[tactic(auto, using(crate::proofs::JreferringProofs::InstantiableClasses::unmade_by_number, crate::proofs::JreferringProofs::InstantiableClasses::unmade_nowhere))]
+#[tactic(auto, using(crate::proofs::JreferringProofs::InstantiableClasses::unmade_by_number, crate::proofs::JreferringProofs::InstantiableClasses::unmade_nowhere,),)]
 fn is_unmade(program: &NamedProgram, name: &[u8]) -> bool
     ensures { result ≡ ProgramClasses.holds ClassEntryUses.is_unmade (ProgramClasses.find program.now name.now) }
 {

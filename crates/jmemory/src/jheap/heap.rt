@@ -57,7 +57,8 @@ impl Model for Heap {
     ghost view = { λ h. record { objects = objects_of h.region h.blocks.items; statics = h.kept.items; left = h.region.room } };
 
     ghost invariant = { λ h. AreBlocks h.blocks.items h.region × AreWhole (blocks_of h.region h.blocks.items)
-        × (length h.blocks.items + h.region.room ≤ vec_capacity h.blocks) × (length h.blocks.items + h.region.room < 2 ^ 31) × (length h.region.cells + h.region.room < 2 ^ 31) };
+        × (length h.blocks.items + h.region.room ≤ vec_capacity h.blocks) × (length h.blocks.items + h.region.room < 2 ^ 31)
+        × (length h.region.cells + h.region.room < 2 ^ 31) };
 }
 
 impl Heap {

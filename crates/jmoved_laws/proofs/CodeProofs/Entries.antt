@@ -32,7 +32,8 @@ use Rattle.jresolution.specs.juses.DescriptorTypes.{Called, Held, Typed, Untyped
 use Rattle.jrewriting.specs.jrewrite.RewrittenPrograms.{moved}
 use Rattle.jrewriting.proofs.JrewriteProofs.Calls.{Known, Takes, target_on}
 use Rattle.jrewriting.proofs.JrewriteProofs.CodeNames.{stands_for}
-use Rattle.jrewriting.proofs.JrewriteProofs.PoolEntries.{Says, desc_kept, entry_kept, field_says, no_entry_fault, owner_kept, says_on, stays}
+use Rattle.jrewriting.proofs.JrewriteProofs.PoolEntries.{Says, desc_kept, entry_kept, field_says, owner_kept, says_on, stays}
+use Rattle.jrewriting.proofs.JmoveclassLawsProofs.CallReferences.{no_entry_fault}
 use Rattle.jrewriting.proofs.JrewriteProofs.PlainPrograms.{is_plain}
 use Rattle.jrewriting.proofs.JrewriteProofs.Targets.{Change, Target, changed_desc, referred_is}
 use Rattle.jsimulation_laws.specs.relation.InstructionExpansion.{handed, moved_member}

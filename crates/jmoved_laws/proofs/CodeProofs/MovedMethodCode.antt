@@ -144,7 +144,7 @@ some_code n h = there (code_of n) h
     there None h = absurd cc
     there (Some b) h = (b, refl)
 
-code_in : (n : MemberInfo) (b : CodeBody) → code_of n ≡ Some b → (a : Attribute) × IsIn a n.attributes × (body_of a ≡ Some b)
+pub code_in : (n : MemberInfo) (b : CodeBody) → code_of n ≡ Some b → (a : Attribute) × IsIn a n.attributes × (body_of a ≡ Some b)
 unfolding code_of
 code_in n b h = first_in body_of n.attributes b h
 

@@ -21,7 +21,6 @@ use Rattle.jresolution.specs.jprogram.MemberResolution.{desc_of, is_abstract, is
 use Rattle.jresolution.specs.jprogram.OrderedPrograms.{StandsInOrder}
 use Rattle.jresolution.proofs.JprogramProofs.ClassHeights.{lib_find, not_taken}
 use Rattle.jresolution.specs.declared.juses.meaning.InvokeKind.{InvokeKind}
-use Rattle.jresolution.specs.declared.juses.meaning.InvokeKind.TheVariants as how
 use Rattle.jresolution.specs.juses.IndexedInstructions.{Used}
 use Rattle.jresolution.specs.juses.InstructionMeanings.{Call, CallMeaning}
 use Rattle.jresolution.specs.juses.DescriptorTypes.{Called, type_in, typed}
@@ -36,6 +35,7 @@ use Rattle.jmoved_laws.specs.names.ResolvedCalls.{calls_static}
 use Rattle.jmoved_laws.proofs.NamesProofs.CallOutcomes.{fetched_at}
 use Rattle.jmoved_laws.proofs.NamesProofs.Classes.{ordered}
 use Rattle.jmoved_laws.proofs.NamesProofs.LinkedCalls.{call_says}
+use Rattle.jmoved_laws.proofs.TypesProofs.AccessCalls.{static_is}
 
 -- ---- a method as it is
 
@@ -63,13 +63,6 @@ controller_static p controller.Snapshot = refl
 controller_static p controller.Privileged = refl
 controller_static p controller.PrivilegedWith = refl
 controller_static p controller.PrivilegedLimited = refl
-
-static_is : (by : InvokeKind) → calls_static by ≡ true → by ≡ how.Static
-static_is how.Static h = refl
-static_is how.Virtual h = absurd cc
-static_is how.Special h = absurd cc
-static_is how.Interface h = absurd cc
-static_is how.Init h = absurd cc
 
 -- ---- its types
 

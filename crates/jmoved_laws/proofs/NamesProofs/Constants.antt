@@ -25,7 +25,7 @@ use Rattle.jmove.specs.PoolAdditions.{IsFront}
 use Rattle.jmoveclass.proofs.PoolStability.{kept_test, same_text}
 use Rattle.jmoveclass.proofs.DemandPreservation.{good_is}
 use Rattle.jrewriting.proofs.JmoveclassLawsProofs.SoundPools.{IsSound}
-use Rattle.jrewriting.proofs.JrewriteProofs.PoolEntries.{no_entry_fault}
+use Rattle.jrewriting.proofs.JmoveclassLawsProofs.CallReferences.{no_entry_fault}
 use Rattle.jrewriting.proofs.JrewriteProofs.MemberPhase.{class_fields}
 
 -- ---- in a longer pool

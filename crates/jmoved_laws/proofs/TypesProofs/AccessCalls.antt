@@ -70,7 +70,7 @@ static_there p controller.Privileged = refl
 static_there p controller.PrivilegedWith = refl
 static_there p controller.PrivilegedLimited = refl
 
-static_is : (by : InvokeKind) → calls_static by ≡ true → by ≡ how.Static
+pub static_is : (by : InvokeKind) → calls_static by ≡ true → by ≡ how.Static
 static_is how.Static h = refl
 static_is how.Virtual h = absurd cc
 static_is how.Special h = absurd cc

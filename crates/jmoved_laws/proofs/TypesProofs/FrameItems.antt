@@ -29,7 +29,7 @@ use Rattle.jlinking.specs.jreferring.ClassNameAccess.{type_named}
 use Rattle.jresolution.specs.juses.InstructionMeanings.{AClass, AConstant, AField, AMethod, EntryMeaning, call_meant, class_at, entry_meant, field_meant, reference}
 use Rattle.jresolution.specs.ProofNames.{as_class}
 use Rattle.jresolution.specs.juses.DescriptorTypes.{class_by, class_of, class_type, element_in, is_context, name, there, type_in, type_of}
-use Rattle.jrewriting.proofs.JrewriteProofs.PoolEntries.{class_entry}
+use Rattle.jrewriting.proofs.JmoveclassLawsProofs.CallReferences.{class_entry}
 use Rattle.jtyping.specs.jwelltyped.DeclaredFrames.{item}
 use Rattle.jtyping.specs.jwelltyped.ProofNames.{or_top}
 use Rattle.jmoved_laws.proofs.TypesProofs.WrittenFrames.{ClassesAreShort}

@@ -42,7 +42,6 @@ use Rattle.jtypes.specs.declared.vtype.VType.{VType}
 use Rattle.jtypes.specs.declared.vtype.VType.TheVariants.{Object, Ctx}
 use Rattle.jtypes.specs.DescriptorElements.{in_brackets}
 use Rattle.jlinking.proofs.JlinkProofs.CodeMeanings.{means}
-use Rattle.jlinking.proofs.JlinkProofs.PresentValues.{first_in}
 use Rattle.jmove.specs.declared.method.Expand.{Expand}
 use Rattle.jmove.specs.declared.method.MethodIn.{MethodIn}
 use Rattle.jmove.specs.declared.naming.Security.TheVariants as security
@@ -121,7 +120,7 @@ use Rattle.jmoved_laws.proofs.NamesProofs.Classes.{moved_ordered, ordered, same_
 use Rattle.jmoved_laws.proofs.NamesProofs.Twins.{same_twin}
 use Rattle.jmoved_laws.proofs.NamesProofs.Types.{type_same}
 use Rattle.jsimulation_laws.specs.relation.InstructionExpansion.{expanded, rt_meaning}
-use Rattle.jmoved_laws.proofs.CodeProofs.MovedMethodCode.{Both, IsThere, code_there, first_there, has_bytes, instruction_there}
+use Rattle.jmoved_laws.proofs.CodeProofs.MovedMethodCode.{code_in, Both, IsThere, code_there, first_there, has_bytes, instruction_there}
 use Rattle.jmoved_laws.proofs.CodeProofs.Entries.{entry_same}
 use Rattle.jmoved_laws.proofs.CodeProofs.InstructionFetch as fetching
 use Rattle.jmoved_laws.proofs.CodeProofs.ExpansionMeanings.{Each, Means, is_name, static_means}
@@ -182,10 +181,6 @@ old_of p c d domain (x ∷ xs) (y ∷ ys) zero n h at =
 old_of p c d domain (x ∷ xs) (y ∷ ys) (suc j) n h at =
     let r = old_of p c d domain xs ys j n h.1 at in
     record { old = r.old; there = r.there; all = r.all }
-
-code_in : (n : MemberInfo) (b : CodeBody) → code_of n ≡ Some b → (a : Attribute) × IsIn a n.attributes × (body_of a ≡ Some b)
-unfolding code_of
-code_in n b h = first_in body_of n.attributes b h
 
 -- ---- a class of the program
 

@@ -11,4 +11,5 @@ use Rattle.jsimulation_laws.specs.relation.ProgramRelation.{MovedCode}
 
 -- Each method's code is moved: what is fetched of it and where it handles what is thrown is what moving says by what instructions mean.
 abbrev pub CodesMove : Type 0
-CodesMove = (p : Program) → IsLinked p → WellTyped p → limits p ≡ None → (m : MethodId) (body : CodeBody) → code_at p m ≡ Some body → MovedCode p (moved p) m body
+CodesMove = (p : Program) → IsLinked p → WellTyped p → limits p ≡ None → (m : MethodId) (body : CodeBody) → code_at p m ≡ Some body
+    → MovedCode p (moved p) m body

@@ -23,11 +23,13 @@ DomainsStay = (p : Program) (m : MethodId) → domain_of (moved p) m ≡ domain_
 
 -- and so are the fields that an `<init>` may write before another is called.
 abbrev pub OwnFieldsStay : Type 0
-OwnFieldsStay = (p : Program) → IsLinked p → WellTyped p → limits p ≡ None → (m : MethodId) (field : Member) → own_fields (moved p) m field ≡ own_fields p m field
+OwnFieldsStay = (p : Program) → IsLinked p → WellTyped p → limits p ≡ None → (m : MethodId) (field : Member)
+    → own_fields (moved p) m field ≡ own_fields p m field
 
 -- `new` finds the same class.
 abbrev pub MakesStay : Type 0
-MakesStay = (p : Program) → IsLinked p → (m : MethodId) (n : ℕ) (c : Name) → fetched p m n ≡ Some (Used (Make c)) → (world (moved p)).class c ≡ (world p).class c
+MakesStay = (p : Program) → IsLinked p → (m : MethodId) (n : ℕ) (c : Name) → fetched p m n ≡ Some (Used (Make c))
+    → (world (moved p)).class c ≡ (world p).class c
 
 -- A class's `main` is the same method,
 abbrev pub MainsStay : Type 0

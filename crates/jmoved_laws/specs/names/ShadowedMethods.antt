@@ -28,5 +28,6 @@ ClearBelow = (p : Program) (owner name desc class : List ℕ) (m : MethodId) →
 -- and along each that has the interface by which it is named.
 abbrev pub ClearWhereHad : Type 0
 ClearWhereHad = (p : Program) (owner name desc class : List ℕ) (m : MethodId) → IsLinked p → is_reserved owner ≡ false → bytes_eq name init ≡ false
-    → resolve_method p owner name desc ≡ Some (Method m) → holds is_interface (find p owner) ≡ true → implements p class owner ≡ true → is_reserved class ≡ false
+    → resolve_method p owner name desc ≡ Some (Method m) → holds is_interface (find p owner) ≡ true → implements p class owner ≡ true
+    → is_reserved class ≡ false
     → IsClear p name desc (up p class)

@@ -10,7 +10,8 @@ use Rattle.joutput.specs.declared.jio.sink.PutFault.{PutFault}
 -- four lower-case hexadecimal digits.
 abbrev pub written_unit : ℕ → List ℕ
 written_unit unit = if unit == byte "\\" then codes "\\\\" else (if nat_le 0x20 unit && nat_le unit 0x7e then unit ∷ [] else
-    byte "\\" ∷ byte "u" ∷ digit_glyph false (unit / 0x1000) ∷ digit_glyph false (unit / 0x100 % 16) ∷ digit_glyph false (unit / 16 % 16) ∷ digit_glyph false (unit % 16) ∷ [])
+    byte "\\" ∷ byte "u" ∷ digit_glyph false (unit / 0x1000) ∷ digit_glyph false (unit / 0x100 % 16) ∷ digit_glyph false (unit / 16 % 16)
+    ∷ digit_glyph false (unit % 16) ∷ [])
 
 -- A text, unit by unit.
 unfoldable pub written : List ℕ → List ℕ
@@ -49,8 +50,10 @@ Goes before now line next bytes =
 -- At a fault that came at these bytes: of the line, whatever it had before and would have behind them, so many bytes went out.
 abbrev pub Breaks : {T : Type 0} → Option (List ℕ) → Option (List ℕ) → LineState → List ℕ → Result T PutFault → Type 0
 Breaks before now line bytes result =
-    (start : Option (List ℕ)) (text more : List ℕ) → IsUnderWay start before line text → IfErr result (λ e. IsCutAt start now (text ++ bytes ++ more) e.written)
+    (start : Option (List ℕ)) (text more : List ℕ) → IsUnderWay start before line text
+    → IfErr result (λ e. IsCutAt start now (text ++ bytes ++ more) e.written)
 
 -- At a fault that came where the line was ended: of all its bytes so many went out.
 abbrev pub BreaksAtEnd : {T : Type 0} → Option (List ℕ) → Option (List ℕ) → LineState → Result T PutFault → Type 0
-BreaksAtEnd before now line result = (start : Option (List ℕ)) (text : List ℕ) → IsUnderWay start before line text → IfErr result (λ e. IsCutAt start now text e.written)
+BreaksAtEnd before now line result = (start : Option (List ℕ)) (text : List ℕ) → IsUnderWay start before line text
+    → IfErr result (λ e. IsCutAt start now text e.written)

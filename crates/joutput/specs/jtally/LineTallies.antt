@@ -28,7 +28,8 @@ tally events end = record { counts = counts_in (text events end); end = end }
 
 abbrev pub count_parts : Counts → List ℕ → List ℕ
 count_parts n behind =
-    codes " grant " ++ (decimal n.grants ++ (codes " deny " ++ (decimal n.denials ++ (codes " throw " ++ (decimal n.throws ++ (codes " out " ++ (decimal n.outs ++ behind)))))))
+    codes " grant " ++ (decimal n.grants
+    ++ (codes " deny " ++ (decimal n.denials ++ (codes " throw " ++ (decimal n.throws ++ (codes " out " ++ (decimal n.outs ++ behind)))))))
 
 -- a word, how many lines of each kind there are, and the run's last line
 abbrev pub tally_line : List ℕ → Tally → List ℕ

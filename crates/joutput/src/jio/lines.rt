@@ -140,7 +140,8 @@ impl Line {
 
     /// Ends the line: puts what is pending.
     pub fn end<K: Sink>(self, out: &mut K) -> Result<(), PutFault>
-        ensures ok { (start : Option (List ℕ)) (text : List ℕ) → IsUnderWay start (K.out out.old) self text → OnOk result (K.out out.new ≡ appended start text) }
+        ensures ok { (start : Option (List ℕ)) (text : List ℕ) → IsUnderWay start (K.out out.old) self text
+            → OnOk result (K.out out.new ≡ appended start text) }
         ensures err { BreaksAtEnd (K.out out.old) (K.out out.new) self result }
         ensures cause { HasCause (K.faults out.old) (K.faults out.new) result }
     {

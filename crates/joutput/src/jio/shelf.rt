@@ -65,5 +65,6 @@ pub trait Shelf {
 /// What `stored` files give: at the path the bytes, and at each other path what was there.
 pub fn stored_laws()
     ensures here { (path bytes : List ℕ) (files : List File) → file_at (stored path bytes files) path ≡ Some bytes }
-    ensures elsewhere { (path bytes other : List ℕ) (files : List File) → (other ≡ path → ⊥) → file_at (stored path bytes files) other ≡ file_at files other }
+    ensures elsewhere { (path bytes other : List ℕ) (files : List File) → (other ≡ path → ⊥)
+        → file_at (stored path bytes files) other ≡ file_at files other }
 {}

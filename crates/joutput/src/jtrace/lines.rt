@@ -97,7 +97,8 @@ fn write_deny<K: Sink>(
 ) -> Result<(), PutFault>
     requires { length (text_of asked.now) < 2 ^ 32 }
     ensures ok { OnOk result (K.out out.new ≡ appended (K.out out.old) (told (codes "deny ") thread (text_of asked.now) (behind_denial domain))) }
-    ensures err { IfErr result (λ e. IsCutAt (K.out out.old) (K.out out.new) (told (codes "deny ") thread (text_of asked.now) (behind_denial domain)) e.written) }
+    ensures err { IfErr result
+        (λ e. IsCutAt (K.out out.old) (K.out out.new) (told (codes "deny ") thread (text_of asked.now) (behind_denial domain)) e.written) }
     ensures cause { HasCause (K.faults out.old) (K.faults out.new) result }
 {
     let domain = u64::from(domain);

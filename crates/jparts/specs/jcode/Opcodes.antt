@@ -169,7 +169,8 @@ abbrev pub all_shuffles : List Shuffle
 all_shuffles = Pop ∷ Pop2 ∷ Dup ∷ DupX1 ∷ DupX2 ∷ Dup2 ∷ Dup2X1 ∷ Dup2X2 ∷ Swap ∷ []
 
 abbrev pub all_two : List OpTwo
-all_two = twos.Iadd ∷ twos.Ladd ∷ twos.Isub ∷ twos.Lsub ∷ twos.Imul ∷ twos.Lmul ∷ twos.Ishl ∷ twos.Lshl ∷ twos.Ishr ∷ twos.Lshr ∷ twos.Iushr ∷ twos.Lushr
+all_two = twos.Iadd ∷ twos.Ladd ∷ twos.Isub ∷ twos.Lsub ∷ twos.Imul ∷ twos.Lmul ∷ twos.Ishl ∷ twos.Lshl ∷ twos.Ishr ∷ twos.Lshr ∷ twos.Iushr
+    ∷ twos.Lushr
     ∷ twos.Iand ∷ twos.Land ∷ twos.Ior ∷ twos.Lor ∷ twos.Ixor ∷ twos.Lxor ∷ twos.Lcmp ∷ []
 
 abbrev pub all_divisions : List Division
@@ -200,14 +201,17 @@ all_indices = index.LdcWide ∷ index.Ldc2 ∷ index.Field GetStatic ∷ index.F
     ∷ index.Call Virtual ∷ index.Call Special ∷ index.Call Static ∷ index.New ∷ index.NewRefArray ∷ index.Cast CheckCast ∷ index.Cast InstanceOf ∷ []
 
 abbrev pub all_branches : List BranchHead
-all_branches = map branch.If all_compares ++ map branch.IfInt all_compares ++ branch.IfRef Same ∷ branch.IfRef Other ∷ branch.IfRef Null ∷ branch.IfRef NonNull ∷ branch.Goto ∷ []
+all_branches = map branch.If all_compares ++ map branch.IfInt all_compares
+    ++ branch.IfRef Same ∷ branch.IfRef Other ∷ branch.IfRef Null ∷ branch.IfRef NonNull ∷ branch.Goto ∷ []
 
 abbrev pub all_others : List OtherHead
-all_others = other.Bipush ∷ other.Sipush ∷ other.Iinc ∷ other.TableSwitch ∷ other.LookupSwitch ∷ other.CallInterface ∷ other.NewArray ∷ other.Wide ∷ other.GotoWide ∷ []
+all_others = other.Bipush ∷ other.Sipush ∷ other.Iinc ∷ other.TableSwitch ∷ other.LookupSwitch ∷ other.CallInterface ∷ other.NewArray ∷ other.Wide
+    ∷ other.GotoWide ∷ []
 
 -- all opcodes that aren't left out
 abbrev pub all_heads : List Head
-all_heads = map heads.Plain all_plain ++ map heads.Byte all_bytes ++ map heads.Index all_indices ++ map heads.Branch all_branches ++ map heads.Other all_others
+all_heads = map heads.Plain all_plain ++ map heads.Byte all_bytes ++ map heads.Index all_indices ++ map heads.Branch all_branches
+    ++ map heads.Other all_others
 
 -- Other numbers below 0xca are of opcodes that are left out; there are no opcodes from 0xca on.
 abbrev pub or_fault : ℕ → Option Head → Result Head CodeFault

@@ -67,7 +67,8 @@ bounded = such (λ b. fault_if (int_lt b.1 b.0) BadOperand) (i4 · i4) ▹ λ b.
 
 unfoldable pub table_switch : ℕ → Format CodeFault TableSwitch
 table_switch at =
-    via (λ p. record { default = p.1.0; low = p.1.1.0.0; high = p.1.1.0.1; branches = p.1.1.1 }) (λ s. (tt, (s.default, ((s.low, s.high), s.branches))))
+    via (λ p. record { default = p.1.0; low = p.1.1.0.0; high = p.1.1.0.1; branches = p.1.1.1 })
+    (λ s. (tt, (s.default, ((s.low, s.high), s.branches))))
     (padding at · i4 · bounded)
 
 -- a number of cases, which isn't negative as a signed number
@@ -86,7 +87,8 @@ key_of before c = Some c.key
 
 unfoldable pub lookup_switch : ℕ → Format CodeFault LookupSwitch
 lookup_switch at =
-    via (λ p. record { default = p.1.0; cases = p.1.1 }) (λ s. (tt, (s.default, s.cases))) (padding at · i4 · counted_from case_count case_behind key_of None)
+    via (λ p. record { default = p.1.0; cases = p.1.1 }) (λ s. (tt, (s.default, s.cases)))
+    (padding at · i4 · counted_from case_count case_behind key_of None)
 
 -- ---- calls by an interface, arrays, wide instructions
 

@@ -34,7 +34,8 @@ locals_after form written before =
 
 -- A function of the items may be applied before or behind.
 abbrev pub LocalsMap : Type 0 → Type 0 → Type 0
-LocalsMap A B = (f : A → B) (form : ℕ) (written before : List A) → option_map (map f) (locals_after form written before) ≡ locals_after form (map f written) (map f before)
+LocalsMap A B = (f : A → B) (form : ℕ) (written before : List A)
+    → option_map (map f) (locals_after form written before) ≡ locals_after form (map f written) (map f before)
 
 -- ---- frames of a StackMapTable
 
@@ -55,7 +56,8 @@ in_full first earlier f = with_locals earlier f (locals_after f.form f.locals (l
 -- The frames in full, or the number of the first that takes away more locals than there are; `i` is the first one's number.
 unfoldable pub expand_from : List MapType → ℕ → Option FullFrame → List RawFrame → Result (List FullFrame) ℕ
 expand_from first i earlier [] = Ok []
-expand_from first i earlier (f ∷ fs) = ok_or (in_full first earlier f) i >>= λ full. expand_from first (i + 1) (Some full) fs >>= λ others. Ok (full ∷ others)
+expand_from first i earlier (f ∷ fs) = ok_or (in_full first earlier f) i >>= λ full. expand_from first (i + 1) (Some full) fs
+    >>= λ others. Ok (full ∷ others)
 
 abbrev pub GivesFull : Result (Vec FullFrame) ExpandError → Result (List FullFrame) ℕ → Type 0
 GivesFull (Ok v) value = value ≡ Ok v.items

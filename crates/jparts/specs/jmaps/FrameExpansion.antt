@@ -20,7 +20,8 @@ opening first frames = record { at = None; locals = first; stack = []; number = 
 
 abbrev pub with_locals : Expanded → RawFrame → List RawFrame → Option (List MapType) → Result (Option Expanded) ℕ
 with_locals e f fs None = Err e.number
-with_locals e f fs (Some locals) = Ok (Some (record { at = Some (place_from e.at f.delta); locals = locals; stack = f.stack; number = e.number + 1; left = fs }))
+with_locals e f fs (Some locals) =
+    Ok (Some (record { at = Some (place_from e.at f.delta); locals = locals; stack = f.stack; number = e.number + 1; left = fs }))
 
 -- The next frame in full, None where none is left, or the number of a frame that takes away more locals than there are.
 abbrev pub next_from : Expanded → List RawFrame → Result (Option Expanded) ℕ

@@ -71,7 +71,14 @@ frames kinds item = whole kinds.trailing (counted (number w16 kinds.truncated) (
 -- ---- by their own names of faults
 
 abbrev pub map_kinds : Kinds MapFault
-map_kinds = record { truncated = kinds.Truncated; reserved = kinds.Reserved; bad_tag = kinds.BadTag; left_out = kinds.LeftOut; trailing = kinds.Trailing }
+map_kinds = record {
+  truncated = kinds.Truncated;
+  reserved = kinds.Reserved;
+  bad_tag = kinds.BadTag;
+  left_out = kinds.LeftOut;
+  trailing =
+      kinds.Trailing;
+}
 
 abbrev pub own_type : Format MapFault MapType
 own_type = map_type map_kinds

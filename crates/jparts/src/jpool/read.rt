@@ -63,7 +63,8 @@ pub fn read_pool(alloc: Global, bytes: &[u8], at: u32) -> Result<(Pool, u32), Po
     // What is read is spelled so.
     ensures found { IfOk result (λ r. Spells (drop at bytes.now) r.0 (drop r.1 bytes.now) × (r.1 ≡ behind_pool at r.0)) }
     // What is spelled so is read, unless memory runs out.
-    ensures only { (entries : List Entry) (rest : List ℕ) → Spells (drop at bytes.now) entries rest → GivesAt (λ r. r) bytes.now result (Ok (entries, behind_pool at entries)) }
+    ensures only { (entries : List Entry) (rest : List ℕ) → Spells (drop at bytes.now) entries rest
+        → GivesAt (λ r. r) bytes.now result (Ok (entries, behind_pool at entries)) }
     // Which fault it is, and where.
     ensures exact { GivesAt (λ r. (r.0, drop r.1 bytes.now)) bytes.now result (ConstantPools.pool.read (drop at bytes.now)) }
 {

@@ -57,7 +57,7 @@ fn slot_of(alloc: Global, place: Slot, bytes: &[u8]) -> Result<(Entry, &[u8]), R
     entry_of(alloc, bytes)
 }
 
-#[tactic(auto, unfolding(crate::specs::jpool::PoolEntries::unused, crate::specs::jpool::PoolEntries::narrow), using(crate::proofs::JpoolProofs::EntrySpellings::fits_spelling))]
+#[tactic(auto, unfolding(crate::specs::jpool::PoolEntries::unused, crate::specs::jpool::PoolEntries::narrow), using(crate::proofs::JpoolProofs::EntrySpellings::fits_spelling),)]
 fn put_slot(place: Slot, one: &Entry, out: &mut Seq<u8>) -> Result<(), AllocError>
     requires { IsTrue ((slot place).fits one.now) }
     ensures { OnOk result (out.new ≡ out.old ++ (slot place).spell one.now) }

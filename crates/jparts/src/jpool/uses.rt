@@ -116,7 +116,7 @@ impl<'a> TextUses<'a> {
         Some(BadName)
     }
 
-    #[tactic(auto, unfolding(crate::specs::jpool::PoolTextUses::use_of, crate::specs::jpool::Descriptors::is_method_descriptor, crate::specs::jpool::Descriptors::method_slots))]
+    #[tactic(auto, unfolding(crate::specs::jpool::PoolTextUses::use_of, crate::specs::jpool::Descriptors::is_method_descriptor, crate::specs::jpool::Descriptors::method_slots,),)]
     fn descriptor_fault_at(&self, i: u16) -> Option<PoolFault>
         ensures { result ≡ descriptor_fault (utf8_at self.now i) }
     {

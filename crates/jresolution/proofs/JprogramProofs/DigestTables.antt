@@ -23,6 +23,7 @@ use Rattle.jresolution.specs.jprogram.ClassFileParts.{is_called, member_desc, me
 use Rattle.jresolution.specs.jprogram.MemberDigests.{AreFirst, AreFirsts, AreTold, HasFirsts, Tells, digest, digest_of, first_at, has_digest}
 use Rattle.jresolution.proofs.JprogramProofs.InterfaceSearch.{slice_get-within, some_is}
 use Rattle.jresolution.proofs.JprogramProofs.ImplementationRows.{position_most}
+use Rattle.jresolution.proofs.JprogramProofs.NameTables.{or_some, none_is}
 
 -- ---- one more digest
 
@@ -31,14 +32,6 @@ same_number a b e = grind (arith, nat_tests)
 
 number_same : (a : ℕ) → is_eq (nat_cmp a a) ≡ true
 number_same a = grind (arith, nat_tests)
-
-pub none_is : (o : Option ℕ) → is_some o ≡ false → o ≡ None
-none_is None e = refl
-none_is (Some i) e = absurd cc
-
-pub or_some : (o later : Option ℕ) → is_some o ≡ true → option_or o later ≡ o
-or_some None later e = absurd cc
-or_some (Some i) later e = refl
 
 pub tells_new : (sum k : ℕ) (old new : BTreeMap ℕ ℕ) → is_some (first_at old sum) ≡ false → tree.UpdatesBy nat_cmp (nat_cmp sum) old new (Some k) → Tells sum k old new
 tells_new sum k old new absent h q = elim (cases_Bool (is_eq (nat_cmp sum q))) [

@@ -40,15 +40,11 @@ use Rattle.jresolution.proofs.JprogramProofs.SearchTermination.{above_faces, fac
 use Rattle.jresolution.proofs.JprogramProofs.InterfaceSearch.{only_runnable, place_there, slice_get-within, some_is}
 use Rattle.jresolution.proofs.JprogramProofs.SuperclassOrder.{above_lower}
 use Rattle.jresolution.proofs.JprogramProofs.InterfaceNumbers.{face_numbered, one_face}
-use Rattle.jresolution.proofs.JprogramProofs.ImplementedInterfaces.{IsFace, faces_are, faces_lower, implements_next}
+use Rattle.jresolution.proofs.JprogramProofs.ImplementedInterfaces.{IsFace, faces_are, faces_lower, implements_next, or_no}
 use Rattle.jresolution.proofs.JprogramProofs.NameReachability.{clash, name_equal, name_is, same_bool}
 use Rattle.jresolution.proofs.JprogramProofs.ClassHeights.{Libs, Nowhere, Stands, Users, all_behind, fault_none, in_none, lib_find, lower_all, not_taken, or_none, stands, tall, tall_most}
 
 -- ---- lists
-
-or_no : (b : Bool) → (b || false) ≡ b
-or_no true = refl
-or_no false = refl
 
 any_of_map : {A B : Type 0} (t : B → Bool) (g : A → B) (xs : List A) → list_any t (map g xs) ≡ list_any (λ x. t (g x)) xs
 any_of_map t g [] = refl

@@ -36,7 +36,7 @@ any_same : {A : Type 0} (s t : A → Bool) (xs : List A) → AllByRecursion (λ 
 any_same s t [] all = refl
 any_same s t (x ∷ xs) all = ap (λ (b : Bool). b || list_any s xs) all.0 ∙ ap (λ (b : Bool). t x || b) (any_same s t xs all.1)
 
-or_no : (b : Bool) → (b || false) ≡ b
+pub or_no : (b : Bool) → (b || false) ≡ b
 or_no true = refl
 or_no false = refl
 

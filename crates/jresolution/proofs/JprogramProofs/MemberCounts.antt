@@ -21,7 +21,7 @@ class_tail : (c : ClassParts) → IsTrue (class_file.fits c) → IsTrue ((tail c
 unfolding class_file strict
 class_tail c fit = second_true (PoolChecks.head.fits (class_parts c).0) ((tail c.pool).fits (class_parts c).1) fit
 
-tail_fields : (pool : List Entry) (t : TailParts) → IsTrue ((tail pool).fits t) → IsTrue ((counted u2 (field pool)).fits t.1.1.1.1.0)
+pub tail_fields : (pool : List Entry) (t : TailParts) → IsTrue ((tail pool).fits t) → IsTrue ((counted u2 (field pool)).fits t.1.1.1.1.0)
 unfolding tail
 tail_fields pool t fit =
     let a = second_true (access.fits t.0) ((index (names_class pool) · index (names_super pool) · counted u2 (index (names_class pool)) · counted u2 (field pool) · counted u2 (method pool) · counted u2 (class_attribute pool)).fits t.1) fit in

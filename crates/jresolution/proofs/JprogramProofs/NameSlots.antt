@@ -13,7 +13,8 @@ use Rattle.jresolution.specs.declared.jprogram.part.CodePart.{CodePart}
 use Rattle.jresolution.specs.jprogram.ProgramClasses.{place_of}
 use Rattle.jresolution.specs.jprogram.ClassFileParts.{this_name}
 use Rattle.jresolution.specs.jprogram.NameSlots.{AreFilled, AreSlots, Fills, has_slot, is_named, place_at, place_in, slot_of}
-use Rattle.jresolution.proofs.JprogramProofs.DigestTables.{no_position, none_is, or_some, same_position}
+use Rattle.jresolution.proofs.JprogramProofs.DigestTables.{no_position, same_position}
+use Rattle.jresolution.proofs.JprogramProofs.NameTables.{none_is, or_some}
 
 -- ---- one more place
 

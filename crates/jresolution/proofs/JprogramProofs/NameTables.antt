@@ -50,11 +50,11 @@ or_none : (o : Option ℕ) → option_or o None ≡ o
 or_none None = refl
 or_none (Some i) = refl
 
-none_is : (o : Option ℕ) → is_some o ≡ false → o ≡ None
+pub none_is : (o : Option ℕ) → is_some o ≡ false → o ≡ None
 none_is None e = refl
 none_is (Some i) e = absurd cc
 
-or_some : (o later : Option ℕ) → is_some o ≡ true → option_or o later ≡ o
+pub or_some : (o later : Option ℕ) → is_some o ≡ true → option_or o later ≡ o
 or_some None later e = absurd cc
 or_some (Some i) later e = refl
 

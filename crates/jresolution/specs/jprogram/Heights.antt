@@ -39,11 +39,13 @@ super_below p heights height (Some name) = is_below p heights height name
 
 -- a height is greater than those of a class's superclass and of the interfaces that it lists
 abbrev pub is_above : Program → List ℕ → ℕ → ClassParts → Bool
-is_above p heights height c = super_below p heights height (super_name c) && list_all (λ i. is_below p heights height (class_text c.pool i)) c.interfaces
+is_above p heights height c = super_below p heights height (super_name c)
+    && list_all (λ i. is_below p heights height (class_text c.pool i)) c.interfaces
 
 -- a part has a name that the library hasn't, and nothing that stands directly above it is higher
 unfoldable pub is_part_above : Program → List ℕ → CodePart → Bool
-is_part_above p heights part = not (is_some (library.class_named p.side (this_name part.class))) && is_above p heights (height_of p heights (this_name part.class) + 1) part.class
+is_part_above p heights part = not (is_some (library.class_named p.side (this_name part.class)))
+    && is_above p heights (height_of p heights (this_name part.class) + 1) part.class
 
 unfoldable pub is_order : Program → List ℕ → Bool
 is_order p heights = list_all (is_part_above p heights) p.parts

@@ -239,7 +239,8 @@ abbrev pub main_desc : Side → List ℕ
 main_desc = elim [ side.Source ↦ codes "([Ljava/lang/String;)V" | side.Passing ↦ codes "([Ljava/lang/String;Lsps/Ctx;)V" ]
 
 abbrev pub is_main : Side → ClassParts → MemberInfo → Bool
-is_main side c m = parts.is_called c (codes "main") (main_desc side) m && (parts.is_public_reach (parts.reach_of m.flags) && parts.is_static m.flags && parts.has_code m)
+is_main side c m = parts.is_called c (codes "main") (main_desc side) m
+    && (parts.is_public_reach (parts.reach_of m.flags) && parts.is_static m.flags && parts.has_code m)
 
 -- `main` of the class of a name: public and static, with code
 unfoldable pub main_of : Program → List ℕ → Option MethodId

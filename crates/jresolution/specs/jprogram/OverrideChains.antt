@@ -28,7 +28,8 @@ opens p r b = is_instance p b && is_shown (reach_of p b) && same_package (owner_
 
 -- a method overrides one above it, where it is known whether one between opens that
 unfoldable pub overrides_by : Program → Member → Bool → Member → Bool
-overrides_by p m opened r = is_instance p m && (gives_way (reach_of p r) (same_package (owner_of p m) (owner_of p r)) || (is_package (reach_of p r) && opened))
+overrides_by p m opened r =
+    is_instance p m && (gives_way (reach_of p r) (same_package (owner_of p m) (owner_of p r)) || (is_package (reach_of p r) && opened))
 
 -- whether a method between opens one above; where it is that one, nothing above it counts
 abbrev pub decide : Program → Member → Member → Option Bool
@@ -50,7 +51,8 @@ methods_above p name desc left from = methods_along p name desc (onward (chain p
 -- the method of a class, where it takes the call; so many classes stand above
 unfoldable pub taking_at : Program → Member → List ℕ → List ℕ → ℕ → List ℕ → Option Member
 taking_at p r name desc left class =
-    option_and_then (λ m. if takes_call p r m (methods_above p name desc left (above_name p class)) then Some m else None) (method_at p name desc class)
+    option_and_then (λ m. if takes_call p r m (methods_above p name desc left (above_name p class)) then Some m else None)
+    (method_at p name desc class)
 
 -- the instance method of a class
 unfoldable pub instance_at : Program → List ℕ → List ℕ → List ℕ → Option Member

@@ -42,6 +42,7 @@ abbrev pub AreNoted : Program → List Entry → List TypeRef → BTreeMap ℕ K
 AreNoted p pool types noted = AllAre (λ i n. IsNoted p pool types n) noted
 
 -- What is noted of a pool.
-pub record AreKnown (p : Program) (pool : List Entry) (types : List TypeRef) (classes : BTreeMap ℕ Kept) (noted : BTreeMap ℕ KeptReference) : Type 0 where
+pub record AreKnown (p : Program) (pool : List Entry) (types : List TypeRef) (classes : BTreeMap ℕ Kept)
+    (noted : BTreeMap ℕ KeptReference) : Type 0 where
   pub of_classes : AreClasses p pool types classes
   pub of_references : AreNoted p pool types noted

@@ -68,7 +68,8 @@ jump ops at test by = option_map (Jump test) (target ops at by)
 -- keys that rise by one from the least, each with its branch's number
 unfoldable pub keyed : List Placed → ℕ → ℤ → List ℤ → Option (List (ℤ × ℕ))
 keyed ops at key [] = Some []
-keyed ops at key (by ∷ branches) = option_and_then (λ to. option_map (λ rest. (key, to) ∷ rest) (keyed ops at (key +ℤ pos 1) branches)) (target ops at by)
+keyed ops at key (by ∷ branches) = option_and_then (λ to. option_map (λ rest. (key, to) ∷ rest) (keyed ops at (key +ℤ pos 1) branches))
+    (target ops at by)
 
 abbrev pub cases : List Placed → ℕ → SwitchOp → Option (List (ℤ × ℕ))
 cases ops at (switches.Table s) = keyed ops at s.low s.branches

@@ -112,7 +112,8 @@ entry_meant p pool (Some (entries.Str i)) = Some (AConstant (Text (text pool i))
 entry_meant p pool (Some (entries.Class i)) = option_map AClass (option_and_then (class_type p) (utf8_at pool i))
 entry_meant p pool (Some (entries.Field class both)) = option_and_then (λ b. field_entry p (reference pool class b)) (name_and_type_at pool both)
 entry_meant p pool (Some (entries.Method class both)) = option_and_then (λ b. method_entry p (reference pool class b)) (name_and_type_at pool both)
-entry_meant p pool (Some (entries.InterfaceMethod class both)) = option_and_then (λ b. method_entry p (reference pool class b)) (name_and_type_at pool both)
+entry_meant p pool (Some (entries.InterfaceMethod class both)) =
+    option_and_then (λ b. method_entry p (reference pool class b)) (name_and_type_at pool both)
 entry_meant p pool _ = None
 
 -- ---- what an instruction makes of it
@@ -174,7 +175,8 @@ abbrev pub spanned : List TypeRef → Span → List TypeRef
 spanned types s = take s.count (drop s.first types)
 
 abbrev pub call_named : Program → List TypeRef → CallUse → CallMeaning
-call_named p types c = record { owner = class_named p c.owner; params = map (named p) (spanned types c.params); ret = option_map (named p) c.ret; member = c.member }
+call_named p types c =
+    record { owner = class_named p c.owner; params = map (named p) (spanned types c.params); ret = option_map (named p) c.ret; member = c.member }
 
 -- the meaning of what is said by number: by a program, the pool of its class, and the list in which the types of parameters stand
 abbrev pub meaning_of : Program → List Entry → List TypeRef → Use → Meaning

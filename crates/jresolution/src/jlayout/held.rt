@@ -11,7 +11,7 @@ use std::alloc::{AllocError, Global};
 
 /// The type of what a field holds, by its descriptor (JVMS 4.3.2). None where this is no field descriptor, or names a class that isn't
 /// there.
-#[tactic(auto, using(crate::proofs::JlayoutProofs::FieldKinds::held_field, crate::proofs::JlayoutProofs::FieldKinds::held_method), unfolding(crate::specs::juses::DescriptorTypes::typed))]
+#[tactic(auto, using(crate::proofs::JlayoutProofs::FieldKinds::held_field, crate::proofs::JlayoutProofs::FieldKinds::held_method), unfolding(crate::specs::juses::DescriptorTypes::typed),)]
 pub fn held_type(
     alloc: Global,
     p: &NamedProgram,

@@ -16,7 +16,8 @@ use jground::jbase::Seq;
 use std::alloc::{AllocError, Global};
 
 fn put_above<'a>(waiting: &mut Vec<&'a [u8]>, above: Option<&'a [u8]>) -> Result<(), AllocError>
-    ensures { OnOk result (waiting_names waiting.new.items ≡ option_to_list (option_map (λ name. name.now) above.entry) ++ waiting_names waiting.old.items) }
+    ensures { OnOk result
+        (waiting_names waiting.new.items ≡ option_to_list (option_map (λ name. name.now) above.entry) ++ waiting_names waiting.old.items) }
 {
     match above {
         Some(above) => {
@@ -41,7 +42,8 @@ fn put_supers<'a>(
     waiting: &mut Vec<&'a [u8]>,
     class: Option<FoundClass<'a>>,
 ) -> Result<(), AllocError>
-    ensures { OnOk result (waiting_names waiting.new.items ≡ DirectSupers.supers_of (option_map seen class.entry) ++ waiting_names waiting.old.items) }
+    ensures { OnOk result
+        (waiting_names waiting.new.items ≡ DirectSupers.supers_of (option_map seen class.entry) ++ waiting_names waiting.old.items) }
 {
     put_faces_of(waiting, class)?;
     put_above(waiting, above_of(class))

@@ -264,7 +264,8 @@ impl NamedProgram {
     }
 
     fn faces_below(&self, heights: &[u32], height: u64, class: &ClassParts) -> bool
-        ensures { result ≡ list_all (λ i. Heights.is_below self.now heights.now height (ClassFileParts.class_text class.now.pool i)) class.now.interfaces }
+        ensures { result ≡ list_all
+            (λ i. Heights.is_below self.now heights.now height (ClassFileParts.class_text class.now.pool i)) class.now.interfaces }
     {
         class.interfaces.as_slice().iter().all(|i| (self.height_of(
             heights,

@@ -153,7 +153,8 @@ impl NamedProgram {
         i: usize,
     ) -> Result<bool, AllocError>
         ensures made { IfOk result (λ b. b ≡ is_some (ImplementedInterfaces.row_in (slice_get rows.now i))) }
-        ensures added { IfOk result (λ b. b ≡ true → IfSome (ImplementedInterfaces.row_in (slice_get rows.now i)) (λ other. BitSets.Joins other row.old row.new)) }
+        ensures added { IfOk result
+            (λ b. b ≡ true → IfSome (ImplementedInterfaces.row_in (slice_get rows.now i)) (λ other. BitSets.Joins other row.old row.new)) }
     {
         match row_at(rows, i) {
             Some(other) => {
@@ -212,7 +213,9 @@ impl NamedProgram {
         requires order { StandsInOrder self.now }
         requires rows { AreRows self.now rows.now }
         ensures made { IfOk result (λ b. b ≡ list_all (ImplementedInterfaces.face_made self.now rows.now class.now) class.now.interfaces) }
-        ensures added { IfOk result (λ b. b ≡ true → Adds self.now (λ i. list_any (ImplementedInterfaces.face_has self.now i class.now) class.now.interfaces) row.old row.new) }
+        ensures added { IfOk result
+            (λ b. b ≡ true → Adds self.now
+            (λ i. list_any (ImplementedInterfaces.face_has self.now i class.now) class.now.interfaces) row.old row.new) }
     {
         for i in class.interfaces.as_slice() {
             if !self.add_face(rows, row, class_text(&class.pool, *i))? {
@@ -231,7 +234,8 @@ impl NamedProgram {
         requires order { StandsInOrder self.now }
         requires rows { AreRows self.now rows.now }
         ensures made { IfOk result (λ b. b ≡ ImplementedInterfaces.above_made self.now rows.now (option_map (λ t. t.now) name.entry)) }
-        ensures added { IfOk result (λ b. b ≡ true → Adds self.now (λ i. ImplementedInterfaces.above_has self.now i (option_map (λ t. t.now) name.entry)) row.old row.new) }
+        ensures added { IfOk result
+            (λ b. b ≡ true → Adds self.now (λ i. ImplementedInterfaces.above_has self.now i (option_map (λ t. t.now) name.entry)) row.old row.new) }
     {
         match name {
             Some(name) => self.add_row(rows, row, name),

@@ -33,5 +33,6 @@ pub fn number_laws()
     ensures number { (p : Program) (name : List ℕ) (r : ClassRef) → option_map ref_of (find p name) ≡ Some r → IsNumber p r }
     ensures own { (p : Program) (i : ℕ) (part : CodePart) → StandsInOrder p → slice_get p.parts i ≡ Some part
         → option_map ref_of (find p (this_name part.class)) ≡ Some (refs.User i) }
-    ensures library { (p : Program) (c : LibClass) → StandsInOrder p → library.stands_on p.side c ≡ true → option_map ref_of (find p (library.name_of c)) ≡ Some (refs.Lib c) }
+    ensures library { (p : Program) (c : LibClass) → StandsInOrder p → library.stands_on p.side c ≡ true
+        → option_map ref_of (find p (library.name_of c)) ≡ Some (refs.Lib c) }
 {}

@@ -116,7 +116,8 @@ impl NamedProgram {
     /// Whether two users' classes have one name, where it is known where these names stand first.
     #[tactic(auto, using(crate::proofs::JprogramProofs::NumberedWalks::same_places))]
     fn same_users(&self, i: u32, j: u32) -> Option<bool>
-        ensures { IfSome result (λ b. b ≡ bytes_eq (ProgramClasses.name_at self.now (ClassRef.User i)) (ProgramClasses.name_at self.now (ClassRef.User j))) }
+        ensures { IfSome result
+            (λ b. b ≡ bytes_eq (ProgramClasses.name_at self.now (ClassRef.User i)) (ProgramClasses.name_at self.now (ClassRef.User j))) }
     {
         let a = self.first_place(i)?;
         let b = self.first_place(j)?;
@@ -287,7 +288,7 @@ impl NamedProgram {
     }
 
     /// The name above a name, with its class. Of a user's class it takes a look at what is kept, and none at names.
-    #[tactic(auto, using(crate::proofs::JprogramProofs::NumberedWalks::at_number, crate::proofs::JprogramProofs::NumberedWalks::at_above, crate::proofs::JprogramProofs::NumberedWalks::at_nowhere))]
+    #[tactic(auto, using(crate::proofs::JprogramProofs::NumberedWalks::at_number, crate::proofs::JprogramProofs::NumberedWalks::at_above, crate::proofs::JprogramProofs::NumberedWalks::at_nowhere,),)]
     pub fn above_at<'a>(&'a self, at: At<'a>) -> Option<At<'a>>
         requires { IsAt self.now at }
         ensures name { option_map (λ a. a.name.now) result ≡ ProgramClasses.above_name self.now at.entry.name.now }

@@ -39,7 +39,9 @@ impl NamedProgram {
         both: u16,
     ) -> Result<Option<Member>, AllocError>
         requires { IsLayered self.now }
-        ensures { IfOk result (λ m. m ≡ option_and_then (MemberResolution.looked_up pool.now class (InterfaceSearch.resolve_by self.now sort)) (name_and_type_at pool.now both)) }
+        ensures { IfOk result
+            (λ m. m ≡ option_and_then (MemberResolution.looked_up pool.now class (InterfaceSearch.resolve_by self.now sort))
+            (name_and_type_at pool.now both)) }
     {
         let Some((name, desc)) = pool.name_and_type(both) else {
             return Ok(None);

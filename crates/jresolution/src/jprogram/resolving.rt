@@ -22,14 +22,16 @@ const INIT: &[u8] = b"<init>";
 impl NamedProgram {
     pub(crate) fn method_of(&self, i: u32, key: Key<'_>) -> Option<Member>
         requires { IsKey key }
-        ensures { result ≡ option_and_then (λ c. MemberResolution.method_in self.now.side c key.entry.name.now key.entry.desc.now) (ProgramClasses.user_at self.now i) }
+        ensures { result ≡ option_and_then (λ c. MemberResolution.method_in self.now.side c key.entry.name.now key.entry.desc.now)
+            (ProgramClasses.user_at self.now i) }
     {
         let (class, firsts) = self.user(i)?;
         user_method(i, class, firsts, key)
     }
 
     fn library_method(&self, name: &[u8], desc: &[u8], class: &[u8]) -> Option<Member>
-        ensures { result ≡ option_and_then (λ c. MemberResolution.method_in self.now.side c name.now desc.now) (ProgramClasses.found_at self.now class.now None) }
+        ensures { result ≡ option_and_then (λ c. MemberResolution.method_in self.now.side c name.now desc.now)
+            (ProgramClasses.found_at self.now class.now None) }
     {
         let class = class_named(self.side(), class)?;
         lib_method_in(self.side(), class, name, desc)
@@ -37,14 +39,16 @@ impl NamedProgram {
 
     pub(crate) fn field_of(&self, i: u32, key: Key<'_>) -> Option<Member>
         requires { IsKey key }
-        ensures { result ≡ option_and_then (λ c. MemberResolution.field_in self.now.side c key.entry.name.now key.entry.desc.now) (ProgramClasses.user_at self.now i) }
+        ensures { result ≡ option_and_then (λ c. MemberResolution.field_in self.now.side c key.entry.name.now key.entry.desc.now)
+            (ProgramClasses.user_at self.now i) }
     {
         let (class, firsts) = self.user(i)?;
         user_field(i, class, firsts, key)
     }
 
     fn library_field(&self, name: &[u8], desc: &[u8], class: &[u8]) -> Option<Member>
-        ensures { result ≡ option_and_then (λ c. MemberResolution.field_in self.now.side c name.now desc.now) (ProgramClasses.found_at self.now class.now None) }
+        ensures { result ≡ option_and_then (λ c. MemberResolution.field_in self.now.side c name.now desc.now)
+            (ProgramClasses.found_at self.now class.now None) }
     {
         let class = class_named(self.side(), class)?;
         lib_field_in(self.side(), class, name, desc)
@@ -75,10 +79,11 @@ impl NamedProgram {
     }
 
     /// The first method of this name and descriptor in the class of a name and in those above it.
-    #[tactic(auto, using(crate::proofs::JprogramProofs::Chains::chain_at, crate::proofs::JprogramProofs::Chains::chain_end), unfolding(jground::specs::jbase::FirstFaults::first_some))]
+    #[tactic(auto, using(crate::proofs::JprogramProofs::Chains::chain_at, crate::proofs::JprogramProofs::Chains::chain_end), unfolding(jground::specs::jbase::FirstFaults::first_some),)]
     fn method_upwards(&self, key: Key<'_>, class: &[u8]) -> Option<Member>
         requires { IsKey key }
-        ensures { result ≡ first_some (MemberResolution.method_at self.now key.entry.name.now key.entry.desc.now) (ProgramClasses.up self.now class.now) }
+        ensures { result ≡ first_some (MemberResolution.method_at self.now key.entry.name.now key.entry.desc.now)
+            (ProgramClasses.up self.now class.now) }
     {
         let mut at = self.at(class);
         let steps = self.most_steps();
@@ -164,7 +169,7 @@ impl NamedProgram {
 
     /// The first member of this name and descriptor in a class itself, of fields alone, and in its interfaces, where the class has it or
     /// lists none; `None` where interfaces would have to be gone through.
-    #[tactic(auto, using(crate::proofs::JprogramProofs::InterfacelessClasses::plain_found, crate::proofs::JprogramProofs::InterfacelessClasses::plain_none))]
+    #[tactic(auto, using(crate::proofs::JprogramProofs::InterfacelessClasses::plain_found, crate::proofs::JprogramProofs::InterfacelessClasses::plain_none,),)]
     fn plainly_at(&self, sort: Sort, key: Key<'_>, at: At<'_>) -> Option<Option<Member>>
         requires key { IsKey key }
         requires at { IsAt self.now at }
@@ -181,10 +186,12 @@ impl NamedProgram {
 
     /// The first member that is found so, from a class upwards; `None` where interfaces would have to be gone through. It takes no
     /// memory.
-    #[tactic(auto, using(crate::proofs::JprogramProofs::Chains::chain_at, crate::proofs::JprogramProofs::Chains::chain_end), unfolding(jground::specs::jbase::FirstFaults::first_some))]
+    #[tactic(auto, using(crate::proofs::JprogramProofs::Chains::chain_at, crate::proofs::JprogramProofs::Chains::chain_end), unfolding(jground::specs::jbase::FirstFaults::first_some),)]
     fn found_plainly(&self, sort: Sort, key: Key<'_>, class: &[u8]) -> Option<Option<Member>>
         requires { IsKey key }
-        ensures { IfSome result (λ m. m ≡ first_some (InterfaceSearch.at_and_over self.now sort key.entry.name.now key.entry.desc.now) (ProgramClasses.up self.now class.now)) }
+        ensures { IfSome result
+            (λ m. m ≡ first_some (InterfaceSearch.at_and_over self.now sort key.entry.name.now key.entry.desc.now)
+            (ProgramClasses.up self.now class.now)) }
     {
         let mut at = self.at(class);
         let steps = self.most_steps();
@@ -201,7 +208,7 @@ impl NamedProgram {
     }
 
     /// The first member that is found so, from a class upwards. Marks are made only where interfaces are gone through.
-    #[tactic(auto, using(crate::proofs::JprogramProofs::Chains::chain_at, crate::proofs::JprogramProofs::Chains::chain_end), unfolding(jground::specs::jbase::FirstFaults::first_some))]
+    #[tactic(auto, using(crate::proofs::JprogramProofs::Chains::chain_at, crate::proofs::JprogramProofs::Chains::chain_end), unfolding(jground::specs::jbase::FirstFaults::first_some),)]
     fn found_upwards(
         &self,
         alloc: Global,
@@ -211,7 +218,8 @@ impl NamedProgram {
         class: &[u8],
     ) -> Result<Option<Member>, AllocError>
         requires { IsLayered self.now }
-        ensures { IfOk result (λ m. m ≡ first_some (InterfaceSearch.at_and_over self.now sort name.now desc.now) (ProgramClasses.up self.now class.now)) }
+        ensures { IfOk result
+            (λ m. m ≡ first_some (InterfaceSearch.at_and_over self.now sort name.now desc.now) (ProgramClasses.up self.now class.now)) }
     {
         if let Some(found) = self.found_plainly(sort, key_of(name, desc), class) {
             return Ok(found);

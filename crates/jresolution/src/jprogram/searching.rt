@@ -90,7 +90,8 @@ impl NamedProgram {
     ) -> Result<Option<Member>, AllocError>
         requires layered { IsLayered self.now }
         requires closed { AreClosed self.now (InterfaceSearch.member_at self.now sort name.now desc.now) closed.old }
-        ensures value { IfOk result (λ m. m ≡ first_some (InterfaceSearch.member_at self.now sort name.now desc.now) (ProgramClasses.superinterfaces self.now class.now)) }
+        ensures value { IfOk result
+            (λ m. m ≡ first_some (InterfaceSearch.member_at self.now sort name.now desc.now) (ProgramClasses.superinterfaces self.now class.now)) }
         ensures kept { IfOk result (λ m. m ≡ None → AreClosed self.now (InterfaceSearch.member_at self.now sort name.now desc.now) closed.new) }
     {
         let mut waiting: Vec<&'a [u8]> = Vec::new(alloc);

@@ -87,7 +87,7 @@ impl NamedProgram {
 
     /// Whether one of the methods in front of `above` opens it, as far as there are such methods from a class upwards, at most so many
     /// classes.
-    #[tactic(auto, using(crate::proofs::JprogramProofs::Chains::chain_at, crate::proofs::JprogramProofs::Chains::chain_end), unfolding(jground::specs::jbase::FirstFaults::first_some))]
+    #[tactic(auto, using(crate::proofs::JprogramProofs::Chains::chain_at, crate::proofs::JprogramProofs::Chains::chain_end), unfolding(jground::specs::jbase::FirstFaults::first_some),)]
     fn decided_from(
         &self,
         above: Member,
@@ -120,7 +120,8 @@ impl NamedProgram {
         from: Option<&[u8]>,
         left: usize,
     ) -> bool
-        ensures { result ≡ list_any (OverrideChains.opens self.now above) (before above (methods_above self.now name.now desc.now left (option_map (λ t. t.now) from.entry))) }
+        ensures { result ≡ list_any (OverrideChains.opens self.now above)
+            (before above (methods_above self.now name.now desc.now left (option_map (λ t. t.now) from.entry))) }
     {
         let Some(from) = from else {
             return false;
@@ -132,7 +133,7 @@ impl NamedProgram {
     }
 
     /// Whether a method overrides another one, beside the methods of the classes between, which begin above it.
-    #[tactic(auto, using(crate::proofs::JprogramProofs::MethodOverrides::overrides_shortly), unfolding(crate::specs::jprogram::OverrideChains::overrides_by))]
+    #[tactic(auto, using(crate::proofs::JprogramProofs::MethodOverrides::overrides_shortly), unfolding(crate::specs::jprogram::OverrideChains::overrides_by),)]
     fn overrides(
         &self,
         below: Member,
@@ -142,7 +143,8 @@ impl NamedProgram {
         from: Option<&[u8]>,
         left: usize,
     ) -> bool
-        ensures { result ≡ MemberResolution.overrides self.now below (before above (methods_above self.now name.now desc.now left (option_map (λ t. t.now) from.entry))) above }
+        ensures { result ≡ MemberResolution.overrides self.now below
+            (before above (methods_above self.now name.now desc.now left (option_map (λ t. t.now) from.entry))) above }
     {
         if !self.is_instance(below) {
             return false;
@@ -171,7 +173,8 @@ impl NamedProgram {
         from: Option<&[u8]>,
         left: usize,
     ) -> bool
-        ensures { result ≡ MemberResolution.takes_call self.now resolved one (methods_above self.now name.now desc.now left (option_map (λ t. t.now) from.entry)) }
+        ensures { result ≡ MemberResolution.takes_call self.now resolved one
+            (methods_above self.now name.now desc.now left (option_map (λ t. t.now) from.entry)) }
     {
         if self.is_static(one) {
             return false;
@@ -200,9 +203,10 @@ impl NamedProgram {
         None
     }
 
-    #[tactic(auto, using(crate::proofs::JprogramProofs::Choices::taking_here, crate::proofs::JprogramProofs::Choices::taking_end), unfolding(crate::specs::jprogram::MemberResolution::first_taking))]
+    #[tactic(auto, using(crate::proofs::JprogramProofs::Choices::taking_here, crate::proofs::JprogramProofs::Choices::taking_end), unfolding(crate::specs::jprogram::MemberResolution::first_taking),)]
     fn first_taking(&self, resolved: Member, name: &[u8], desc: &[u8], on: &[u8]) -> Option<Member>
-        ensures { result ≡ MemberResolution.first_taking self.now resolved (methods_along self.now name.now desc.now (ProgramClasses.up self.now on.now)) }
+        ensures { result ≡ MemberResolution.first_taking self.now resolved
+            (methods_along self.now name.now desc.now (ProgramClasses.up self.now on.now)) }
     {
         let mut at = on;
         let steps = self.most_steps();
@@ -229,7 +233,7 @@ impl NamedProgram {
         Some(one)
     }
 
-    #[tactic(auto, using(crate::proofs::JprogramProofs::Chains::chain_at, crate::proofs::JprogramProofs::Chains::chain_end), unfolding(jground::specs::jbase::FirstFaults::first_some))]
+    #[tactic(auto, using(crate::proofs::JprogramProofs::Chains::chain_at, crate::proofs::JprogramProofs::Chains::chain_end), unfolding(jground::specs::jbase::FirstFaults::first_some),)]
     fn instance_from(&self, name: &[u8], desc: &[u8], on: &[u8]) -> Option<Member>
         ensures { result ≡ first_some (OverrideChains.instance_at self.now name.now desc.now) (ProgramClasses.up self.now on.now) }
     {
@@ -256,7 +260,8 @@ impl NamedProgram {
         desc: &[u8],
         on: &[u8],
     ) -> Option<Member>
-        ensures { result ≡ MemberResolution.first_by self.now call resolved (methods_along self.now name.now desc.now (ProgramClasses.up self.now on.now)) }
+        ensures { result ≡ MemberResolution.first_by self.now call resolved
+            (methods_along self.now name.now desc.now (ProgramClasses.up self.now on.now)) }
     {
         match call {
             CallKind::Virtual => self.first_taking(resolved, name, desc, on),

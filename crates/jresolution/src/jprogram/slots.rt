@@ -39,7 +39,7 @@ fn fill(slots: &mut Seq<Option<u32>>, k: usize, i: u32)
 }
 
 /// The slots of parts: some eight for each, so that few names share one.
-#[tactic(auto, using(crate::proofs::JprogramProofs::NameSlots::free_length, crate::proofs::JprogramProofs::NameSlots::filled_none, crate::proofs::JprogramProofs::NameSlots::filled_end))]
+#[tactic(auto, using(crate::proofs::JprogramProofs::NameSlots::free_length, crate::proofs::JprogramProofs::NameSlots::filled_none, crate::proofs::JprogramProofs::NameSlots::filled_end,),)]
 pub fn slots_of(alloc: Global, parts: &[CodePart]) -> Result<Seq<Option<u32>>, AllocError>
     requires { length parts.now ≤ 0xffff }
     ensures { IfOk result (λ slots. AreSlots parts.now slots) }

@@ -39,7 +39,7 @@ fn target(ops: &[Placed], at: u32, by: i32) -> Option<u32>
 }
 
 /// The numbers to which branches from a place lead, where each leads to one.
-#[tactic(auto, using(crate::proofs::JusesProofs::BranchNumbers::some_next, crate::proofs::JusesProofs::BranchNumbers::none_next, jground::proofs::JbaseProofs::Loops::some_ends))]
+#[tactic(auto, using(crate::proofs::JusesProofs::BranchNumbers::some_next, crate::proofs::JusesProofs::BranchNumbers::none_next, jground::proofs::JbaseProofs::Loops::some_ends,),)]
 fn targets_of(
     alloc: Global,
     ops: &[Placed],
@@ -70,7 +70,7 @@ fn key_of(ops: &[Placed], at: u32, case: &Case) -> Option<Key>
 }
 
 /// Keys, each with the number to which its branch leads, where each leads to one.
-#[tactic(auto, using(crate::proofs::JusesProofs::BranchNumbers::some_next, crate::proofs::JusesProofs::BranchNumbers::none_next, jground::proofs::JbaseProofs::Loops::some_ends))]
+#[tactic(auto, using(crate::proofs::JusesProofs::BranchNumbers::some_next, crate::proofs::JusesProofs::BranchNumbers::none_next, jground::proofs::JbaseProofs::Loops::some_ends,),)]
 fn keys_in(
     alloc: Global,
     ops: &[Placed],
@@ -138,7 +138,8 @@ fn jump(ops: &[Placed], at: u32, test: Condition, by: i32) -> Option<FlowRef>
 
 /// A switch, where its keys and the number for all others are known.
 fn switch_with(keys: Option<Keys>, other: Option<u32>) -> Option<FlowRef>
-    ensures { option_map flow_named result ≡ option_and_then (λ found. option_map (IndexedInstructions.Switch found) other) (option_map keys_of keys) }
+    ensures { option_map flow_named result ≡ option_and_then (λ found. option_map (IndexedInstructions.Switch found) other)
+        (option_map keys_of keys) }
 {
     let keys = keys?;
     let other = other?;

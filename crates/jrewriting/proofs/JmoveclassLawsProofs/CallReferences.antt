@@ -1,7 +1,7 @@
 -- What moved code calls and names, as it is put into a pool: the pool meets the demands on pools still, and each index names a reference
 -- of its kind.
 use Rattle.std.proofs.Common.{◌≡◌, ℕ, ◌≤◌, ◌<◌, Bool, true, false, ◌&&◌, List, [], ◌∷◌, length, Option, Some, None, refl, ap, sym, ◌∙◌, subst, arith}
-use Rattle.std.specs.Prelude.{IsTrue, is_some, slice_get, option_map, option_and_then, nat_le, codes, ◌||◌, if◌then◌else◌}
+use Rattle.std.specs.Prelude.{IsTrue, is_some, slice_get, option_map, option_and_then, nat_le, codes, if◌then◌else◌}
 use Rattle.std.proofs.lemmas.Bool.{leb-true}
 use Rattle.jground.specs.jformat.Format.{is_good}
 use Rattle.jground.proofs.JformatProofs.ReadingSteps.{first_true, second_true}
@@ -32,7 +32,7 @@ use Rattle.jrewriting.specs.jmoveclass_laws.MovedFiles.{HasRoom}
 use Rattle.jrewriting.proofs.JmoveclassLawsProofs.AddedNames.{context_name, context_text}
 use Rattle.jrewriting.proofs.JmoveclassLawsProofs.AddedReferences.{put_reference, put_security, reference}
 use Rattle.jrewriting.proofs.JmoveclassLawsProofs.SoundPools.{IsSound, IsText, desc_text, entry_front, front_length, good_if, index_small, map_good, or_good, put_both, put_class, put_text}
-use Rattle.jrewriting.proofs.JmoveclassLawsProofs.Texts.{is_named, longer, longer_is_method, longer_text, pool_text, text_entry}
+use Rattle.jrewriting.proofs.JmoveclassLawsProofs.Texts.{is_named, longer, longer_is_method, longer_text, pool_text, text_entry, or_second}
 use Rattle.jparts.specs.jpool.PoolEntries.{utf8_parts, class_parts, name_and_type_parts}
 
 -- ---- entries by what they hold
@@ -72,7 +72,7 @@ pub kind_of_reference : (b : Bool) (c d : ℕ) → kind_in (Some (reference b c 
 kind_of_reference true c d = refl
 kind_of_reference false c d = refl
 
-class_entry : (o : Option Entry) (n : ℕ) → option_and_then class_parts o ≡ Some n → o ≡ Some (Class n)
+pub class_entry : (o : Option Entry) (n : ℕ) → option_and_then class_parts o ≡ Some n → o ≡ Some (Class n)
 class_entry (Some (Class m)) n h = let same : m ≡ n = cc in ap (λ (k : ℕ). Some (Class k)) same
 class_entry None n h = absurd cc
 class_entry (Some Unused) n h = absurd cc
@@ -90,7 +90,7 @@ class_entry (Some (MethodHandle k m)) n h = absurd cc
 class_entry (Some (MethodType d)) n h = absurd cc
 class_entry (Some (InvokeDynamic k d)) n h = absurd cc
 
-two_entry : (o : Option Entry) (x : ℕ × ℕ) → option_and_then name_and_type_parts o ≡ Some x → o ≡ Some (NameAndType x.0 x.1)
+pub two_entry : (o : Option Entry) (x : ℕ × ℕ) → option_and_then name_and_type_parts o ≡ Some x → o ≡ Some (NameAndType x.0 x.1)
 two_entry (Some (NameAndType m d)) x h =
     let first : m ≡ x.0 = cc in
     let second : d ≡ x.1 = cc in
@@ -125,7 +125,7 @@ kind_stays pool whole f i b h = ap kind_in (same_at pool whole f i (kind_there (
 -- ---- what entries of a sound pool name
 
 -- an entry's own faults
-no_entry_fault : (pool : List Entry) (i : ℕ) (e : Entry) → IsSound pool → slice_get pool i ≡ Some e → IsTrue (is_good (pools.entry_fault pool e))
+pub no_entry_fault : (pool : List Entry) (i : ℕ) (e : Entry) → IsSound pool → slice_get pool i ≡ Some e → IsTrue (is_good (pools.entry_fault pool e))
 unfolding no_fault entry_fault
 no_entry_fault pool i e s at =
     let good = at_index (λ one. is_good (entry_fault pool one)) pool i e s.good at in
@@ -136,7 +136,7 @@ unfolding pools.entry_fault
 member_good pool true c d h = h
 member_good pool false c d h = h
 
-two_good : (pool : List Entry) (n d : ℕ) → IsTrue (is_good (pools.entry_fault pool (NameAndType n d))) → IsTrue (is_utf8 pool n) × IsTrue (is_good (descriptor_fault (utf8_at pool d)))
+pub two_good : (pool : List Entry) (n d : ℕ) → IsTrue (is_good (pools.entry_fault pool (NameAndType n d))) → IsTrue (is_utf8 pool n) × IsTrue (is_good (descriptor_fault (utf8_at pool d)))
 unfolding pools.entry_fault
 two_good pool n d h = good_if (is_utf8 pool n) (descriptor_fault (utf8_at pool d)) h
 
@@ -168,7 +168,7 @@ made_by pool b c (Some x) r h class texts =
     let same : made ≡ r = cc in
     subst (λ (q : Reference). IsGood pool b q) same (record { interface = refl; class = class; name = t.0; desc = t.1 })
 
-in_by : (pool : List Entry) (b : Bool) (c d : ℕ) → reference_in pool (Some (reference b c d)) ≡ reference_by b c (name_and_type_at pool d)
+pub in_by : (pool : List Entry) (b : Bool) (c d : ℕ) → reference_in pool (Some (reference b c d)) ≡ reference_by b c (name_and_type_at pool d)
 in_by pool true c d = refl
 in_by pool false c d = refl
 
@@ -224,10 +224,6 @@ called_at pool i b s k =
     let e = reference_of (slice_get pool i) b k in
     let less : i < 65536 = index_small pool i (reference b e.class e.two) s e.is in
     record { sound = s; kind = k; small = omega arith }
-
-or_second : (a b : Bool) → IsTrue b → IsTrue (a || b)
-or_second true b h = refl
-or_second false b h = h
 
 put_changed : (r : Reference) (text : List ℕ) (pool : List Entry) → IsSound pool → IsTrue (is_class pool r.class) → IsTrue (is_utf8 pool r.name) → IsText text → IsTrue (is_method_descriptor text)
     → length (with_changed r text pool).1 ≤ 65535 → IsCalled r.interface (with_changed r text pool)

@@ -22,17 +22,12 @@ use Rattle.jmoveclass.specs.KeptAttributes.{class_keeps}
 use Rattle.jmoveclass.specs.MovedMembers.{with_method}
 use Rattle.jmoveclass.specs.MovedClasses.{moved_class}
 use Rattle.jmoveclass.specs.PoolPuts.{with_each}
-use Rattle.jmoveclass.proofs.Growth.{method_grows}
 use Rattle.jmoveclass.proofs.DemandPreservation.{all_on, class_attribute_on, field_on, index_on, names_class_on, names_super_on}
 use Rattle.jmoveclass.proofs.MethodContents.{class_tail}
-use Rattle.jmoveclass.proofs.ItemAdditions.{each_grows}
 use Rattle.jrewriting.specs.jmoveclass_laws.MovedFiles.{CanBeFile}
 use Rattle.jrewriting.proofs.JmoveclassLawsProofs.Methods.{methods_good}
 use Rattle.jrewriting.proofs.JmoveclassLawsProofs.PoolFormat.{head_stays}
-
-pub pool_front : (p : Program) (domain : ℕ) (c : ClassParts) → IsFront c.pool (moved_class p domain c).pool
-unfolding moved_class
-pool_front p domain c = (each_grows (with_method p c domain) (method_grows p c domain) c.methods).on c.pool
+use Rattle.jrewriting.proofs.JrewriteProofs.ClassLookup.{pool_front}
 
 -- ---- as many methods, and no more attributes
 

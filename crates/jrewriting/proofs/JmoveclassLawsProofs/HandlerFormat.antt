@@ -1,6 +1,6 @@
 -- The handlers of moved code: their places are places of it, and what they catch is there.
-use Rattle.std.proofs.Common.{◌≡◌, ℕ, zero, suc, ◌+◌, ◌≤◌, ◌<◌, pos, Bool, true, false, ◌&&◌, List, [], ◌∷◌, length, map, Some, refl, sym, ap, subst, ◌∙◌, arith, inl, inr}
-use Rattle.std.specs.Prelude.{IsTrue, slice_get, nat_lt, ◌||◌, ◌==◌}
+use Rattle.std.proofs.Common.{◌≡◌, ℕ, zero, suc, ◌+◌, ◌≤◌, ◌<◌, pos, true, ◌&&◌, List, [], ◌∷◌, length, map, Some, refl, sym, ap, subst, ◌∙◌, arith, inl, inr}
+use Rattle.std.specs.Prelude.{IsTrue, slice_get, nat_lt, ◌==◌}
 use Rattle.std.specs.List.{list_all}
 use Rattle.std.specs.Ordering.{int_eq}
 use Rattle.std.proofs.lemmas.Bool.{cases_Bool, eq-eqb, eqb-true, lt-ltb, ltb-true}
@@ -34,6 +34,8 @@ use Rattle.jrewriting.proofs.JmoveLawsProofs.CodePlaces as placing
 use Rattle.jrewriting.proofs.JmoveLawsProofs.HandlerRanges.{labelled}
 use Rattle.jrewriting.proofs.JmoveLawsProofs.InstructionSizes.{laid_placed}
 use Rattle.jmoveclass.proofs.DemandPreservation.{good_is, index_on, is_good_of, names_caught_on}
+use Rattle.jrewriting.proofs.JmoveclassLawsProofs.PoolFormat.{or_first}
+use Rattle.jrewriting.proofs.JmoveclassLawsProofs.Texts.{or_second}
 
 -- ---- the end of code
 
@@ -64,10 +66,6 @@ past_all s (PrivilegedWith n) o at = past at (push_int s.domain) (call_static n 
 past_all s (PrivilegedLimited n) o at = past at (move_ref Load s.local) (push_int s.domain ∷ call_static n ∷ [])
 
 -- ---- places
-
-or_second : (a b : Bool) → IsTrue b → IsTrue (a || b)
-or_second true b h = refl
-or_second false b h = h
 
 is_at : (ps : List Placed) (n : ℕ) (x : Placed) → slice_get ps n ≡ Some x → IsTrue (is_place ps (pos x.at))
 is_at [] n x e = absurd cc
@@ -104,10 +102,6 @@ new_begins begin s ks is m q h =
 
 small : (n : ℕ) → n ≤ 32767 → IsTrue (u2.fits n)
 small n h = lt-ltb n 65536 (omega arith)
-
-or_first : (a b : Bool) → IsTrue a → IsTrue (a || b)
-or_first true b h = refl
-or_first false b h = absurd cc
 
 -- where it ends
 end_parts : (begin : List Op) (s : Setting) (ks : List Expand) (is : List Placed) → Moves begin s ks is → (p q : ℕ) → IsTrue (begins is p) → p < q → IsTrue (ends is q)

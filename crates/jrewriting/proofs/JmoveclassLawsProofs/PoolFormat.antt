@@ -68,7 +68,7 @@ use Rattle.jrewriting.proofs.JmoveclassLawsProofs.PrologueClasses.{AreItems, Beg
 use Rattle.jrewriting.proofs.JmoveclassLawsProofs.CallReferences.{AreCalls, IsBody, IsCall, kind_in, put_body}
 use Rattle.jrewriting.specs.jmoveclass_laws.MovedFiles.{CanBeFile, HasRoom, HaveRoom}
 use Rattle.jrewriting.proofs.JmoveclassLawsProofs.SoundPools.{IsSound, IsText, entry_front, front_length, map_good, name_text, or_good, put_text}
-use Rattle.jrewriting.proofs.JmoveclassLawsProofs.Texts.{longer, longer_text, moved_is}
+use Rattle.jrewriting.proofs.JmoveclassLawsProofs.Texts.{longer, longer_text, moved_is, or_second}
 
 -- ---- the pool of a class file
 
@@ -153,11 +153,11 @@ calling_only n (Some members.LibField) = tt
 calling_only n (Some (members.LibMethod one)) = library_only n one
 
 -- the reference of a call
-record IsKind (e : Option Entry) : Type 0 where
+pub record IsKind (e : Option Entry) : Type 0 where
   pub kind : Bool
   pub is : kind_in e ≡ Some kind
 
-kind_by : (e : Option Entry) → IsTrue (is_method e || is_interface_method e) → IsKind e
+pub kind_by : (e : Option Entry) → IsTrue (is_method e || is_interface_method e) → IsKind e
 kind_by (Some (Method c d)) h = record { kind = false; is = refl }
 kind_by (Some (InterfaceMethod c d)) h = record { kind = true; is = refl }
 kind_by None h = absurd cc
@@ -175,13 +175,9 @@ kind_by (Some (MethodHandle k m)) h = absurd cc
 kind_by (Some (MethodType d)) h = absurd cc
 kind_by (Some (InvokeDynamic k d)) h = absurd cc
 
-or_first : (a b : Bool) → IsTrue a → IsTrue (a || b)
+pub or_first : (a b : Bool) → IsTrue a → IsTrue (a || b)
 or_first true b h = refl
 or_first false b h = absurd cc
-
-or_second : (a b : Bool) → IsTrue b → IsTrue (a || b)
-or_second true b h = refl
-or_second false b h = h
 
 called_kind : (o : CallOp) (e : Option Entry) → IsTrue (is_called o e) → IsKind e
 called_kind callops.Virtual e h = kind_by e (or_first (is_method e) (is_interface_method e) h)

@@ -88,11 +88,11 @@ IsPutItems x = IsSound x.1 × AreItems x.1 x.0
 one_item : (pool : List Entry) (t : MapType) → IsTrue ((named_type pool).fits t) → AreItems pool (t ∷ [])
 one_item pool t h = both ((named_type pool).fits t) true h refl
 
-reference_item : (b : Bool) (i : ℕ) (t : MapType) → b ≡ true → (if b then items.Object i else t) ≡ items.Object i
+pub reference_item : (b : Bool) (i : ℕ) (t : MapType) → b ≡ true → (if b then items.Object i else t) ≡ items.Object i
 reference_item true i t h = refl
 reference_item false i t h = absurd cc
 
-other_item : (b : Bool) (i : ℕ) (t : MapType) → b ≡ false → (if b then items.Object i else t) ≡ t
+pub other_item : (b : Bool) (i : ℕ) (t : MapType) → b ≡ false → (if b then items.Object i else t) ≡ t
 other_item true i t h = absurd cc
 other_item false i t h = refl
 

@@ -286,7 +286,7 @@ is_named name = is_class_name name || is_array_descriptor name
 pub named_class : (name : List ℕ) → IsTrue (is_class_name name) → IsTrue (is_named name)
 named_class name h = rw h refl
 
-or_second : (a b : Bool) → IsTrue b → IsTrue (a || b)
+pub or_second : (a b : Bool) → IsTrue b → IsTrue (a || b)
 or_second true b h = refl
 or_second false b h = h
 

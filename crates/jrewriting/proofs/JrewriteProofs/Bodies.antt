@@ -65,7 +65,8 @@ use Rattle.jrewriting.proofs.JrewriteProofs.CodeNames.{class_stays, moved_good}
 use Rattle.jrewriting.proofs.JrewriteProofs.DeclarationChecks.{first_false, no_again, no_fault, or_join, second_false}
 use Rattle.jrewriting.proofs.JrewriteProofs.ParameterAccess.{Handed, first_good}
 use Rattle.jrewriting.proofs.JrewriteProofs.FrameItems.{AllFull, AllName, AllRaw, Names, full_names, moved_full, names_on, raw_on, written_full}
-use Rattle.jrewriting.proofs.JrewriteProofs.PoolEntries.{class_entry, class_kept, judged_at}
+use Rattle.jrewriting.proofs.JrewriteProofs.PoolEntries.{class_kept, judged_at}
+use Rattle.jrewriting.proofs.JmoveclassLawsProofs.CallReferences.{class_entry}
 use Rattle.jrewriting.proofs.JrewriteProofs.MemberPhase.{none_or}
 use Rattle.jrewriting.proofs.JrewriteProofs.Params.{Fits, context_fits}
 use Rattle.jrewriting.proofs.JrewriteProofs.PlainPrograms.{is_plain}

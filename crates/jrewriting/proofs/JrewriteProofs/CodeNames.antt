@@ -1,6 +1,6 @@
 -- The instructions of moved code: each names what it may name.
 use Rattle.std.proofs.Common.{◌≡◌, ℕ, ◌+◌, ℤ, Bool, true, false, cond, List, [], ◌∷◌, ◌++◌, map, Option, Some, None, refl, sym, ap, subst, ◌∙◌, nat_lt}
-use Rattle.std.specs.Prelude.{IsTrue, is_some, option_and_then, slice_get, codes, ◌||◌}
+use Rattle.std.specs.Prelude.{IsTrue, is_some, option_and_then, slice_get, codes}
 use Rattle.std.specs.List.{list_all}
 use Rattle.jground.specs.jbase.FirstFaults.{first_some}
 use Rattle.jground.proofs.JbaseProofs.Firsts.{none_of}
@@ -42,8 +42,7 @@ use Rattle.jresolution.specs.jprogram.ProgramClasses.{Program}
 use Rattle.jresolution.specs.jprogram.MemberResolution.{referred}
 use Rattle.jresolution.specs.jprogram.ClassFileParts.{this_name}
 use Rattle.jmoveclass.specs.CallExpansion.{calling, expand_by}
-use Rattle.jrewriting.proofs.JmoveclassLawsProofs.CallReferences.{kind_in}
-use Rattle.jrewriting.proofs.JmoveclassLawsProofs.PoolFormat.{CallsOnly, calling_only}
+use Rattle.jrewriting.proofs.JmoveclassLawsProofs.PoolFormat.{CallsOnly, IsKind, calling_only, kind_by, or_first}
 use Rattle.jlinking.specs.declared.jreferring.judged.Judged.{Judged}
 use Rattle.jlinking.specs.jreferring.PoolEntryMeanings.{judge_pool}
 use Rattle.jlinking.specs.jreferring.MemberLookUp.{named_use}
@@ -60,6 +59,7 @@ use Rattle.jrewriting.proofs.JrewriteProofs.Security.{security_call}
 use Rattle.jrewriting.proofs.JrewriteProofs.Targets.{Target, call_use, target_of, target_use}
 use Rattle.jparts.specs.jpool.PoolEntries.{class_parts}
 use Rattle.std.specs.Option.{option_map_or}
+use Rattle.jrewriting.proofs.JmoveclassLawsProofs.Texts.{or_second}
 
 -- ---- lines
 
@@ -174,36 +174,6 @@ same_table p c d k n s = table_same p k.linked c d k.pair n s.e s.at s.kept
 pub class_stays : (p : Program) (c d : ClassParts) → Known p c d → (n : ℕ) → IsTrue (is_class c.pool n) → slice_get (judge_pool (moved p) d) n ≡ slice_get (judge_pool p c) n
 unfolding is_class
 class_stays p c d k n h = same_table p c d k n (stays_by (λ o. is_some (option_and_then class_parts o)) (λ a b. refl) (λ a b. refl) refl (slice_get c.pool n) h)
-
-record IsKind (e : Option Entry) : Type 0 where
-  pub kind : Bool
-  pub is : kind_in e ≡ Some kind
-
-kind_by : (e : Option Entry) → IsTrue (is_method e || is_interface_method e) → IsKind e
-kind_by (Some (Method c d)) h = record { kind = false; is = refl }
-kind_by (Some (InterfaceMethod c d)) h = record { kind = true; is = refl }
-kind_by None h = absurd cc
-kind_by (Some Unused) h = absurd cc
-kind_by (Some (Utf8 t)) h = absurd cc
-kind_by (Some (Integer n)) h = absurd cc
-kind_by (Some (Float n)) h = absurd cc
-kind_by (Some (Long n)) h = absurd cc
-kind_by (Some (Double n)) h = absurd cc
-kind_by (Some (Class n)) h = absurd cc
-kind_by (Some (Str n)) h = absurd cc
-kind_by (Some (Field c d)) h = absurd cc
-kind_by (Some (NameAndType n d)) h = absurd cc
-kind_by (Some (MethodHandle k m)) h = absurd cc
-kind_by (Some (MethodType d)) h = absurd cc
-kind_by (Some (InvokeDynamic k d)) h = absurd cc
-
-or_first : (a b : Bool) → IsTrue a → IsTrue (a || b)
-or_first true b h = refl
-or_first false b h = absurd cc
-
-or_second : (a b : Bool) → IsTrue b → IsTrue (a || b)
-or_second true b h = refl
-or_second false b h = h
 
 called_kind : (o : CallOp) (e : Option Entry) → IsTrue (is_called o e) → IsKind e
 called_kind callops.Virtual e h = kind_by e (or_first (is_method e) (is_interface_method e) h)

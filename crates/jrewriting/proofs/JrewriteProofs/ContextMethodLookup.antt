@@ -119,7 +119,7 @@ run_there call.ContextCheck class name desc h on c s d = absurd cc
 run_there (call.PermissionInit one) class name desc h on c s d = absurd cc
 run_there (call.Rt one) class name desc h on c s d = absurd cc
 
-method_is : (b : Bool) (m : LibCall) (x : Member) → (if b then None else Some (LibMethod m)) ≡ Some x → LibMethod m ≡ x
+pub method_is : (b : Bool) (m : LibCall) (x : Member) → (if b then None else Some (LibMethod m)) ≡ Some x → LibMethod m ≡ x
 method_is true m x h = absurd cc
 method_is false m x h = cc
 

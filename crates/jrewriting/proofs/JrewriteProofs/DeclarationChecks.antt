@@ -293,7 +293,7 @@ any_none : {A : Type 0} (f : A → Bool) (xs : List A) → ((x : A) → f x ≡ 
 any_none f [] h = refl
 any_none f (x ∷ xs) h = or_join (f x) (list_any f xs) (h x) (any_none f xs h)
 
-and_none : (a b : Bool) → b ≡ false → (a && b) ≡ false
+pub and_none : (a b : Bool) → b ≡ false → (a && b) ≡ false
 and_none true b h = h
 and_none false b h = refl
 

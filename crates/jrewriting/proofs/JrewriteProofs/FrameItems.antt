@@ -27,7 +27,7 @@ use Rattle.jmoveclass.specs.PoolPuts.{with_each}
 use Rattle.jmoveclass.proofs.PoolStability.{class_name_stays}
 use Rattle.jmoveclass.proofs.Growth.{item_grows}
 use Rattle.jmoveclass.proofs.ItemAdditions.{each_grows}
-use Rattle.jrewriting.proofs.JmoveclassLawsProofs.PrologueClasses.{Begins}
+use Rattle.jrewriting.proofs.JmoveclassLawsProofs.PrologueClasses.{Begins, reference_item, other_item}
 use Rattle.jrewriting.proofs.JmoveclassLawsProofs.SoundPools.{IsSound, IsText, front_length, put_class}
 use Rattle.jrewriting.proofs.JmoveclassLawsProofs.Texts.{IsTypeText, class_text, is_named}
 use Rattle.jclass.specs.CodeFormat.{frames_in}
@@ -81,14 +81,6 @@ other t = if t.base == byte "J" then items.Long else items.Int
 
 abbrev IsPut : (List ℕ → Type 0) → List MapType × List Entry → Type 0
 IsPut Q x = IsSound x.1 × AllName Q x.1 x.0
-
-reference_item : (b : Bool) (i : ℕ) (t : MapType) → b ≡ true → (if b then items.Object i else t) ≡ items.Object i
-reference_item true i t h = refl
-reference_item false i t h = absurd cc
-
-other_item : (b : Bool) (i : ℕ) (t : MapType) → b ≡ false → (if b then items.Object i else t) ≡ t
-other_item true i t h = absurd cc
-other_item false i t h = refl
 
 number_names : (Q : List ℕ → Type 0) (pool : List Entry) (b : Bool) → Names Q pool (if b then items.Long else items.Int)
 number_names Q pool true = tt

@@ -9,8 +9,7 @@ use Rattle.jground.specs.jbase.FirstFaults.{fault_if}
 use Rattle.jground.proofs.JbaseProofs.Firsts.{all_pass, none_fails, none_of}
 use Rattle.jground.proofs.JformatProofs.ReadingSteps.{first_true, second_true}
 use Rattle.jparts.specs.declared.jpool.entry.Entry.{Entry}
-use Rattle.jparts.specs.declared.jpool.entry.Entry.TheVariants.{Unused, Utf8, Integer, Float, Long, Double, Class, Str, Field, Method, InterfaceMethod, NameAndType, MethodHandle, MethodType, InvokeDynamic}
-use Rattle.jparts.specs.jpool.ConstantPools.{class_name_at, utf8_at}
+use Rattle.jparts.specs.jpool.ConstantPools.{class_name_at}
 use Rattle.jclass.specs.declared.class.ClassParts.{ClassParts}
 use Rattle.jclass.specs.declared.fault.ClassFault.TheVariants.{Index}
 use Rattle.jclass.specs.IndexFormats.{index, u2}
@@ -25,17 +24,17 @@ use Rattle.jresolution.specs.declared.jprogram.part.CodePart.{CodePart}
 use Rattle.jresolution.specs.jprogram.ProgramClasses as classes
 use Rattle.jresolution.specs.jprogram.ProgramClasses.{Lib, Program, User, above, above_name, face_names, faces, find, holds, is_interface, known, reaches, faces_of}
 use Rattle.jresolution.specs.jprogram.ProofNames.{supers, reserved_on, is_barred, is_no_interface, super_missing}
-use Rattle.jresolution.specs.jprogram.NameChecks.{entry_reserved, in_class, is_reserved, member_reserved, names_reserved, naming_fault, naming_test, reserved_test, stands_before, taken_test, text_reserved}
+use Rattle.jresolution.specs.jprogram.NameChecks.{entry_reserved, in_class, is_reserved, member_reserved, names_reserved, naming_fault, naming_test, reserved_test, stands_before, taken_test}
 use Rattle.jresolution.specs.jprogram.ClassFileParts as parts
-use Rattle.jresolution.specs.jprogram.ClassFileParts.{class_text, interface_names, or_empty, super_name, text, this_name}
+use Rattle.jresolution.specs.jprogram.ClassFileParts.{class_text, interface_names, or_empty, super_name, this_name}
 use Rattle.jresolution.specs.jprogram.SuperChecks.{circle_test, face_missing, is_missing, is_object, lists_a_class, missing_test, super_barred, super_test, supers_fault, supers_test}
+use Rattle.jresolution.proofs.JprogramProofs.ReservedNames.{plain_in}
 use Rattle.jmoveclass.specs.MovedClasses.{moved_class, moved_part}
 use Rattle.jmoveclass.proofs.DemandPreservation.{good_is}
 use Rattle.jrewriting.specs.jrewrite.RewrittenPrograms.{moved}
 use Rattle.jrewriting.proofs.JrewriteProofs.ClassLookup.{AllNamed, IsMovedClass, Named, SameFound, above_same, faces_same, found_same, named_at, part_moved, place_same, this_same}
 use Rattle.jrewriting.proofs.JrewriteProofs.Sides.{same_named, source_plain}
 use Rattle.jrewriting.proofs.JrewriteProofs.InitialLocals.{or_false}
-use Rattle.jparts.specs.jpool.PoolEntries.{class_parts}
 
 -- ---- names for what definitions say in place
 
@@ -44,7 +43,7 @@ is_before i = elim [ None ↦ false | Some first ↦ nat_lt first i ]
 
 -- ---- what no test finds
 
-if_none : {F : Type 0} (b : Bool) (fault : F) → fault_if b fault ≡ None → b ≡ false
+pub if_none : {F : Type 0} (b : Bool) (fault : F) → fault_if b fault ≡ None → b ≡ false
 if_none true fault h = absurd cc
 if_none false fault h = refl
 
@@ -59,41 +58,19 @@ class_none i (Some kind) h = absurd cc
 none_class : (i : ℕ) (o : Option LinkKind) → o ≡ None → in_class i o ≡ None
 none_class i o h = ap (in_class i) h
 
-pub any_false : {A : Type 0} (f : A → Bool) (xs : List A) (i : ℕ) (x : A) → list_any f xs ≡ false → slice_get xs i ≡ Some x → f x ≡ false
-any_false f [] i x h at = absurd cc
-any_false f (y ∷ ys) zero x h at = let same : y ≡ x = cc in subst (λ z. f z ≡ false) same (or_false (f y) (list_any f ys) h).0
-any_false f (y ∷ ys) (suc i) x h at = any_false f ys i x (or_false (f y) (list_any f ys) h).1 at
-
 pub false_or : (a b : Bool) → a ≡ false → b ≡ false → (a || b) ≡ false
 false_or true b h k = absurd cc
 false_or false b h k = k
 
 -- ---- names that are kept for the passing side
 
-plain_in : (pool : List Entry) (i : ℕ) (name : List ℕ) (o : Option Entry) → slice_get pool i ≡ o → list_any (entry_reserved pool) pool ≡ false → option_and_then (utf8_at pool) (option_and_then class_parts o) ≡ Some name → is_reserved name ≡ false
-plain_in pool i name (Some (Class n)) at h e =
-    let kept = any_false (entry_reserved pool) pool i (Class n) h at in
-    ap (λ (o : Option (List ℕ)). is_reserved (or_empty o)) (sym e) ∙ (or_false (is_reserved (text pool n)) (text_reserved (text pool n)) kept).0
-plain_in pool i name None at h e = absurd cc
-plain_in pool i name (Some Unused) at h e = absurd cc
-plain_in pool i name (Some (Utf8 t)) at h e = absurd cc
-plain_in pool i name (Some (Integer n)) at h e = absurd cc
-plain_in pool i name (Some (Float n)) at h e = absurd cc
-plain_in pool i name (Some (Long n)) at h e = absurd cc
-plain_in pool i name (Some (Double n)) at h e = absurd cc
-plain_in pool i name (Some (Str t)) at h e = absurd cc
-plain_in pool i name (Some (Field c b)) at h e = absurd cc
-plain_in pool i name (Some (Method c b)) at h e = absurd cc
-plain_in pool i name (Some (InterfaceMethod c b)) at h e = absurd cc
-plain_in pool i name (Some (NameAndType n d)) at h e = absurd cc
-plain_in pool i name (Some (MethodHandle k m)) at h e = absurd cc
-plain_in pool i name (Some (MethodType d)) at h e = absurd cc
-plain_in pool i name (Some (InvokeDynamic b d)) at h e = absurd cc
-
 -- no class that a class file names is kept
 pub class_plain : (c : ClassParts) (i : ℕ) (name : List ℕ) → names_reserved c ≡ false → class_name_at c.pool i ≡ Some name → is_reserved name ≡ false
 unfolding class_name_at
-class_plain c i name h e = plain_in c.pool i name (slice_get c.pool i) refl (or_false (list_any (entry_reserved c.pool) c.pool) (list_any (member_reserved c) c.methods || list_any (member_reserved c) c.fields) h).0 e
+class_plain c i name h e =
+    let plain = plain_in c.pool i (slice_get c.pool i) refl
+    (or_false (list_any (entry_reserved c.pool) c.pool) (list_any (member_reserved c) c.methods || list_any (member_reserved c) c.fields) h).0 in
+    ap (λ (o : Option (List ℕ)). is_reserved (or_empty o)) (sym e) ∙ plain
 
 plain_text : (c : ClassParts) (i : ℕ) (o : Option (List ℕ)) → class_name_at c.pool i ≡ o → names_reserved c ≡ false → IsTrue (is_plain_class o) → is_reserved (or_empty o) ≡ false
 plain_text c i None e h good = absurd cc

@@ -1,6 +1,6 @@
 -- Methods of the library that are called as before are found in the moved program where they were.
 use Rattle.std.proofs.Common.{◌≡◌, ℕ, suc, ◌+◌, Bool, true, false, List, [], ◌∷◌, ◌++◌, Option, Some, None, refl, ap, sym, ◌∙◌, subst, inl, inr}
-use Rattle.std.specs.Prelude.{option_and_then, option_map, slice_get, ◌&&◌, ◌||◌, if◌then◌else◌}
+use Rattle.std.specs.Prelude.{option_and_then, option_map, slice_get, ◌||◌}
 use Rattle.std.specs.List.{list_any, position, position_from}
 use Rattle.std.specs.Str.{bytes_eq}
 use Rattle.std.proofs.lemmas.Bool.{cases_Bool}
@@ -28,13 +28,15 @@ use Rattle.jresolution.specs.jprogram.ClassFileParts.{is_called, member_desc, me
 use Rattle.jmoveclass.specs.MovedMembers.{new_desc}
 use Rattle.jrewriting.proofs.JmoveclassLawsProofs.MovedMethods.{Alike, Like}
 use Rattle.jrewriting.specs.jrewrite.RewrittenPrograms.{moved}
-use Rattle.jrewriting.proofs.JrewriteProofs.DeclarationChecks.{Facts, Moving, desc_is, differ}
+use Rattle.jrewriting.proofs.JrewriteProofs.DeclarationChecks.{Facts, Moving, desc_is, differ, and_none}
 use Rattle.jrewriting.proofs.JrewriteProofs.FieldLookup.{on_side}
 use Rattle.jrewriting.proofs.JrewriteProofs.ClassLookup.{SameFound}
 use Rattle.jrewriting.proofs.JrewriteProofs.FinalOverrides.{AllMoving, Likewise, lib_likewise, lib_named, moved_side}
 use Rattle.jrewriting.proofs.JrewriteProofs.MemberResolution.{Finds, Is, no_some}
 use Rattle.jrewriting.proofs.JrewriteProofs.MemberSides.{from_source}
 use Rattle.jrewriting.proofs.JrewriteProofs.HierarchyPhases.{IsPlain, same}
+use Rattle.jrewriting.proofs.JrewriteProofs.ContextMethodLookup.{method_is}
+use Rattle.jrewriting.proofs.JrewriteProofs.ParameterAccess.{or_left}
 
 -- what isn't handed a context, and stands on the passing side
 abbrev pub unchanged : Member → Bool
@@ -54,10 +56,6 @@ or_right : (a b : Bool) → b ≡ true → (a || b) ≡ true
 or_right true b h = refl
 or_right false b h = h
 
-or_left : (a b : Bool) → a ≡ true → (a || b) ≡ true
-or_left true b h = refl
-or_left false b h = absurd cc
-
 any_last : (ps : List FieldType) → list_any type_reserved (ps ++ context_type ∷ []) ≡ true
 any_last [] = refl
 any_last (p ∷ ps) = or_right (type_reserved p) (list_any type_reserved (ps ++ context_type ∷ [])) (any_last ps)
@@ -65,10 +63,6 @@ any_last (p ∷ ps) = or_right (type_reserved p) (list_any type_reserved (ps ++ 
 pub new_reserved : (c : ClassParts) (m : MemberInfo) → Facts c m → text_reserved (new_desc c m) ≡ true
 unfolding text_reserved
 new_reserved c m f = ap desc_reserved f.new ∙ or_left (list_any type_reserved (f.ps ++ context_type ∷ [])) (return_reserved f.ret) (any_last f.ps)
-
-and_none : (a b : Bool) → b ≡ false → (a && b) ≡ false
-and_none true b h = h
-and_none false b h = refl
 
 other_desc : (new desc : List ℕ) → text_reserved new ≡ true → text_reserved desc ≡ false → bytes_eq new desc ≡ false
 other_desc new desc kept plain = elim (cases_Bool (bytes_eq new desc)) [
@@ -115,10 +109,6 @@ none_there class name desc o (Some m) plain typed a b e =
     let f = call_found Passing class name desc m b in
     let there = on_side Passing Source class name desc m b (from_source m f.3 (ap is_reserved f.0 ∙ plain) (ap text_reserved f.2 ∙ typed)) in
     ap held (sym there ∙ a) ∙ e
-
-method_is : (b : Bool) (m : LibCall) (x : Member) → (if b then None else Some (LibMethod m)) ≡ Some x → LibMethod m ≡ x
-method_is true m x h = absurd cc
-method_is false m x h = cc
 
 some_there : (p : Program) (class name desc : List ℕ) (o q : Option LibCall) → member_named Source class name desc ≡ o → member_named Passing class name desc ≡ q → (x : Member) → held o ≡ Some x → unchanged x ≡ true → Is (IsItself p) x (held q)
 some_there p class name desc None q a b x e h = absurd cc

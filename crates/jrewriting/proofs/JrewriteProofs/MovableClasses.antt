@@ -1,12 +1,12 @@
 -- Each class of a program that is checked can be moved.
-use Rattle.std.proofs.Common.{◌≡◌, ℕ, zero, suc, ◌≤◌, ◌<◌, Bool, true, false, ◌&&◌, List, [], ◌∷◌, length, Option, Some, None, refl, ap, sym, ◌∙◌, subst, arith}
+use Rattle.std.proofs.Common.{◌≡◌, ℕ, zero, suc, ◌≤◌, ◌<◌, false, ◌&&◌, List, [], ◌∷◌, length, Option, Some, None, refl, ap, sym, ◌∙◌, subst, arith}
 use Rattle.std.specs.Prelude.{IsTrue, slice_get, nat_lt, nat_le, option_and_then, take, codes, ◌||◌}
 use Rattle.std.specs.Str.{bytes_eq}
 use Rattle.std.specs.List.{list_any}
 use Rattle.std.proofs.lemmas.Bool.{ltb-false, ltb-true}
 use Rattle.std.proofs.lemmas.List.{length-map}
 use Rattle.std.proofs.lemmas.List.Elements.{All-from_recursion}
-use Rattle.jground.specs.jbase.FirstFaults.{fault_if, or_else}
+use Rattle.jground.specs.jbase.FirstFaults.{or_else}
 use Rattle.jground.proofs.JbaseProofs.Firsts.{none_fails, none_of}
 use Rattle.jground.proofs.JformatProofs.ReadingSteps.{first_true, second_true}
 use Rattle.jclass.specs.declared.class.ClassParts.{ClassParts}
@@ -43,12 +43,9 @@ use Rattle.jrewriting.specs.jmoveclass_laws.MovedFiles.{FramesStand}
 use Rattle.jrewriting.proofs.JrewriteProofs.FrameLocals.{Keep, framed, stand_of, wide_of}
 use Rattle.jrewriting.proofs.JrewriteProofs.InitialLocals.{are_there, begun_under, or_false, return_some}
 use Rattle.jmoveclass.proofs.MethodContents.{IsMethod, is_method_of, only_code}
+use Rattle.jrewriting.proofs.JrewriteProofs.HierarchyPhases.{if_none}
 
 -- ---- what no test of linking finds
-
-if_none : {F : Type 0} (b : Bool) (fault : F) → fault_if b fault ≡ None → b ≡ false
-if_none true fault h = absurd cc
-if_none false fault h = refl
 
 pub at_none : (i k : ℕ) (o : Option LinkKind) → at_member i k o ≡ None → o ≡ None
 at_none i k None h = refl

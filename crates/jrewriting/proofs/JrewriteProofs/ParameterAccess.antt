@@ -50,7 +50,7 @@ abbrev pub taken_over : ClassParts → MemberInfo → List RawFrame → List Fie
 taken_over c m [] = []
 taken_over c m (f ∷ fs) = params_of c m
 
-or_left : (a b : Bool) → a ≡ true → (a || b) ≡ true
+pub or_left : (a b : Bool) → a ≡ true → (a || b) ≡ true
 or_left true b h = refl
 or_left false b h = absurd cc
 

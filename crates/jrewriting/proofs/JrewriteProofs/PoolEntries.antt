@@ -11,11 +11,8 @@ use Rattle.jparts.specs.declared.jpool.entry.Entry.TheVariants.{Unused, Utf8, In
 use Rattle.jparts.specs.declared.jpool.fault.PoolFault.TheVariants.{BadIndex}
 use Rattle.jparts.specs.jpool.Descriptors.{descriptor_of, method_slots}
 use Rattle.jparts.specs.jpool.ConstantPools as pools
-use Rattle.jparts.specs.jpool.ConstantPools.{class_name_at, descriptor_fault, is_class, is_name_and_type, is_utf8, member_fault, name_and_type_at, utf8_at}
-use Rattle.jparts.proofs.JpoolProofs.PoolLaws.{at_index}
+use Rattle.jparts.specs.jpool.ConstantPools.{class_name_at, is_class, is_name_and_type, is_utf8, member_fault, name_and_type_at, utf8_at}
 use Rattle.jclass.specs.declared.class.ClassParts.{ClassParts}
-use Rattle.jclass.specs.PoolChecks.{entry_fault, no_fault, text_fault}
-use Rattle.jclass.specs.IndexFormats.{pool_fault}
 use Rattle.jmove.specs.PoolAdditions.{IsFront}
 use Rattle.jresolution.specs.declared.jprogram.fault.LinkKind.{LinkKind}
 use Rattle.jresolution.specs.declared.jprogram.member.Member.{Member}
@@ -39,8 +36,8 @@ use Rattle.jlinking.proofs.JreferringProofs.IndexedReferences.{reference_named}
 use Rattle.jlinking.proofs.JlinkProofs.PresentValues.{then_is}
 use Rattle.jmoveclass.proofs.PoolStability.{class_name_stays, kept_test, same_text, text_stays}
 use Rattle.jmoveclass.proofs.DemandPreservation.{good_is}
-use Rattle.jrewriting.proofs.JmoveclassLawsProofs.CallReferences.{named_in, some_is}
-use Rattle.jrewriting.proofs.JmoveclassLawsProofs.SoundPools.{IsSound, desc_text, good_if, map_good, or_good}
+use Rattle.jrewriting.proofs.JmoveclassLawsProofs.CallReferences.{named_in, some_is, two_entry, class_entry, no_entry_fault, two_good}
+use Rattle.jrewriting.proofs.JmoveclassLawsProofs.SoundPools.{IsSound, desc_text}
 use Rattle.jrewriting.specs.jrewrite.LinkageLaws.{IsLinked}
 use Rattle.jrewriting.specs.jrewrite.RewrittenPrograms.{moved}
 use Rattle.jrewriting.proofs.JrewriteProofs.DeclarationChecks.{first_false}
@@ -48,61 +45,12 @@ use Rattle.jrewriting.proofs.JrewriteProofs.FieldLookup.{any, fields_found}
 use Rattle.jrewriting.proofs.JrewriteProofs.FinalOverrides.{Likewise}
 use Rattle.jrewriting.proofs.JrewriteProofs.PlainPrograms.{is_plain}
 use Rattle.jrewriting.proofs.JrewriteProofs.MemberResolution.{Finds, facts_same, field_finds}
-use Rattle.jrewriting.proofs.JrewriteProofs.HierarchyPhases.{IsPlain, any_false}
+use Rattle.jresolution.proofs.JprogramProofs.ReservedNames.{any_false}
+use Rattle.jrewriting.proofs.JrewriteProofs.HierarchyPhases.{IsPlain}
 use Rattle.jrewriting.proofs.JrewriteProofs.SupertypeChains.{class_use_same, desc_test_same, extends_same, interface_name, named_plain, type_test_same}
 use Rattle.jparts.specs.jpool.PoolEntries.{utf8_parts, class_parts, name_and_type_parts}
 
 -- ---- entries of a sound pool
-
-pub class_entry : (o : Option Entry) (n : ℕ) → option_and_then class_parts o ≡ Some n → o ≡ Some (Class n)
-class_entry (Some (Class m)) n h = let same : m ≡ n = cc in ap (λ (k : ℕ). Some (Class k)) same
-class_entry None n h = absurd cc
-class_entry (Some Unused) n h = absurd cc
-class_entry (Some (Utf8 t)) n h = absurd cc
-class_entry (Some (Integer m)) n h = absurd cc
-class_entry (Some (Float m)) n h = absurd cc
-class_entry (Some (Long m)) n h = absurd cc
-class_entry (Some (Double m)) n h = absurd cc
-class_entry (Some (Str m)) n h = absurd cc
-class_entry (Some (Field c d)) n h = absurd cc
-class_entry (Some (Method c d)) n h = absurd cc
-class_entry (Some (InterfaceMethod c d)) n h = absurd cc
-class_entry (Some (NameAndType m d)) n h = absurd cc
-class_entry (Some (MethodHandle k m)) n h = absurd cc
-class_entry (Some (MethodType d)) n h = absurd cc
-class_entry (Some (InvokeDynamic k d)) n h = absurd cc
-
-two_entry : (o : Option Entry) (x : ℕ × ℕ) → option_and_then name_and_type_parts o ≡ Some x → o ≡ Some (NameAndType x.0 x.1)
-two_entry (Some (NameAndType m d)) x h =
-    let first : m ≡ x.0 = cc in
-    let second : d ≡ x.1 = cc in
-    ap (λ (k : ℕ). Some (NameAndType k d)) first ∙ ap (λ (k : ℕ). Some (NameAndType x.0 k)) second
-two_entry None x h = absurd cc
-two_entry (Some Unused) x h = absurd cc
-two_entry (Some (Utf8 t)) x h = absurd cc
-two_entry (Some (Integer m)) x h = absurd cc
-two_entry (Some (Float m)) x h = absurd cc
-two_entry (Some (Long m)) x h = absurd cc
-two_entry (Some (Double m)) x h = absurd cc
-two_entry (Some (Class m)) x h = absurd cc
-two_entry (Some (Str m)) x h = absurd cc
-two_entry (Some (Field c d)) x h = absurd cc
-two_entry (Some (Method c d)) x h = absurd cc
-two_entry (Some (InterfaceMethod c d)) x h = absurd cc
-two_entry (Some (MethodHandle k m)) x h = absurd cc
-two_entry (Some (MethodType d)) x h = absurd cc
-two_entry (Some (InvokeDynamic k d)) x h = absurd cc
-
--- an entry's own faults
-pub no_entry_fault : (pool : List Entry) (i : ℕ) (e : Entry) → IsSound pool → slice_get pool i ≡ Some e → IsTrue (is_good (pools.entry_fault pool e))
-unfolding no_fault entry_fault
-no_entry_fault pool i e s at =
-    let good = at_index (λ one. is_good (entry_fault pool one)) pool i e s.good at in
-    map_good (pools.entry_fault pool e) (or_good (text_fault e) (option_map pool_fault (pools.entry_fault pool e)) good).1
-
-two_good : (pool : List Entry) (n d : ℕ) → IsTrue (is_good (pools.entry_fault pool (NameAndType n d))) → IsTrue (is_utf8 pool n) × IsTrue (is_good (descriptor_fault (utf8_at pool d)))
-unfolding pools.entry_fault
-two_good pool n d h = good_if (is_utf8 pool n) (descriptor_fault (utf8_at pool d)) h
 
 text_in_pool : (pool : List Entry) (i : ℕ) → IsTrue (is_utf8 pool i) → (t : List ℕ) × (utf8_at pool i ≡ Some t)
 unfolding is_utf8 utf8_at

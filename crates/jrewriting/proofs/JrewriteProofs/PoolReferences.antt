@@ -1,6 +1,6 @@
 -- What moved code calls, as it is put into a pool: each index names the reference that it must name.
-use Rattle.std.proofs.Common.{◌≡◌, ℕ, ◌≤◌, Bool, true, false, List, [], ◌∷◌, length, Option, Some, None, refl, ap, sym, ◌∙◌, subst, arith}
-use Rattle.std.specs.Prelude.{IsTrue, slice_get, option_and_then, codes, ◌||◌, if◌then◌else◌}
+use Rattle.std.proofs.Common.{◌≡◌, ℕ, ◌≤◌, Bool, false, List, [], ◌∷◌, length, Option, Some, None, refl, ap, sym, ◌∙◌, subst, arith}
+use Rattle.std.specs.Prelude.{IsTrue, slice_get, option_and_then, codes, if◌then◌else◌}
 use Rattle.std.proofs.lemmas.Bool.{le-leb}
 use Rattle.jparts.specs.declared.jpool.entry.Entry.{Entry}
 use Rattle.jparts.specs.declared.jpool.entry.Entry.TheVariants.{Utf8, NameAndType}
@@ -21,11 +21,12 @@ use Rattle.jrewriting.proofs.JmoveclassLawsProofs.Methods.{text_at}
 use Rattle.jrewriting.proofs.JmoveclassLawsProofs.AddedNames.{context_name, context_text}
 use Rattle.jrewriting.proofs.JmoveclassLawsProofs.AddedReferences.{IsReferencePut, put_reference, put_security, reference}
 use Rattle.jrewriting.proofs.JmoveclassLawsProofs.SoundPools.{IsSound, IsText, entry_front, front_length, put_both, put_class, put_text}
-use Rattle.jrewriting.proofs.JmoveclassLawsProofs.Texts.{longer_is_method, longer_text, pool_text, text_entry}
+use Rattle.jrewriting.proofs.JmoveclassLawsProofs.Texts.{longer_is_method, longer_text, pool_text, text_entry, or_second}
 use Rattle.jresolution.specs.jprogram.ProgramClasses.{Program}
 use Rattle.jrewriting.proofs.JrewriteProofs.Calls.{Takes, target_on}
 use Rattle.jrewriting.proofs.JrewriteProofs.Targets.{Change, Target, changed_desc}
 use Rattle.jparts.specs.jpool.PoolEntries.{name_and_type_parts}
+use Rattle.jrewriting.proofs.JmoveclassLawsProofs.CallReferences.{in_by}
 
 -- ---- a reference that was put
 
@@ -82,10 +83,6 @@ rt_put m pool s few =
 
 -- ---- a changed call
 
-or_second : (a b : Bool) → IsTrue b → IsTrue (a || b)
-or_second true b h = refl
-or_second false b h = h
-
 put_changed : (r : Reference) (text : List ℕ) (pool : List Entry) (owner name : List ℕ) → IsSound pool → class_name_at pool r.class ≡ Some owner → slice_get pool r.name ≡ Some (Utf8 name) → IsText text → IsTrue (is_method_descriptor text)
     → length (with_changed r text pool).1 ≤ 65535 → IsReferencePut r.interface owner name text (with_changed r text pool)
 unfolding with_changed ◌>>◌
@@ -104,10 +101,6 @@ put_changed r text pool owner name s class named t good few =
 -- the reference that a target is
 abbrev made : (pool : List Entry) (i : ℕ) → Target pool i → Reference
 made pool i t = record { interface = t.interface; class = t.class; name = t.says.n; descriptor = t.says.d }
-
-in_by : (pool : List Entry) (b : Bool) (c d : ℕ) → reference_in pool (Some (reference b c d)) ≡ reference_by b c (name_and_type_at pool d)
-in_by pool true c d = refl
-in_by pool false c d = refl
 
 made_is : (pool : List Entry) (i : ℕ) (t : Target pool i) → reference_at pool i ≡ Some (made pool i t)
 unfolding reference_at

@@ -63,8 +63,9 @@ use Rattle.jrewriting.proofs.JmoveclassLawsProofs.Texts.{longer, longer_slots, l
 use Rattle.jrewriting.specs.jrewrite.LinkageLaws.{IsLinked}
 use Rattle.jrewriting.specs.jrewrite.RewrittenPrograms.{moved}
 use Rattle.jrewriting.proofs.JrewriteProofs.ContextMethodLookup.{IsForm, changed, is_run, methods_changed}
-use Rattle.jrewriting.proofs.JrewriteProofs.DeclarationChecks.{Facts, differ, first_false, or_join, second_false}
-use Rattle.jrewriting.proofs.JrewriteProofs.PoolEntries.{Says, desc_kept, judged_at, no_entry_fault, owner_kept, says_of, says_use}
+use Rattle.jrewriting.proofs.JrewriteProofs.DeclarationChecks.{Facts, differ, first_false, or_join, second_false, and_none}
+use Rattle.jrewriting.proofs.JrewriteProofs.PoolEntries.{Says, desc_kept, judged_at, owner_kept, says_of, says_use}
+use Rattle.jrewriting.proofs.JmoveclassLawsProofs.CallReferences.{no_entry_fault}
 use Rattle.jrewriting.proofs.JrewriteProofs.MemberPhase.{none_or}
 use Rattle.jrewriting.proofs.JrewriteProofs.MovableClasses.{short_at}
 use Rattle.jrewriting.proofs.JrewriteProofs.FinalOverrides.{AllMoving}
@@ -385,10 +386,6 @@ not_context t h = elim (cases_Bool (is_context t)) [
   | inl hit ↦ differ (sym (ap is_reserved ((bytes_eq-Decides t.class (codes "sps/Ctx")).0 hit)) ∙ h)
   | inr miss ↦ miss
 ]
-
-and_none : (a b : Bool) → b ≡ false → (a && b) ≡ false
-and_none true b h = h
-and_none false b h = refl
 
 none_has : (ps : List FieldType) → list_any type_reserved ps ≡ false → list_any has_contexts (ps ++ context_type ∷ []) ≡ false
 none_has [] h = refl

@@ -22,7 +22,8 @@ Leads = (to : ℕ → ℕ) (from at old : ℕ) (by : ℤ) → pos from +ℤ by �
 -- At the new place of the n-th instruction its expansion begins, at the number that it has.
 abbrev pub Jumps : Type 0
 Jumps = (begin : List Op) (s : Setting) (ks : List Expand) (is : List Placed) → IsTrue (jcode.code.fits is)
-    → (n : ℕ) (k : Expand) (i : Placed) → IsNth ks is n k i → jcode.place_of (moved begin s ks is) (new_place begin s ks is i.at) ≡ Some (index_of begin s ks is n)
+    → (n : ℕ) (k : Expand) (i : Placed) → IsNth ks is n k i → jcode.place_of (moved begin s ks is) (new_place begin s ks is i.at)
+    ≡ Some (index_of begin s ks is n)
 
 -- The old code's end moves to the end of moved code.
 abbrev pub Ended : Type 0

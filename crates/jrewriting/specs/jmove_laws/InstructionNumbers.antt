@@ -70,7 +70,8 @@ Counted = (begin : List Op) (s : Setting) (ks : List Expand) (is : List Placed) 
 abbrev pub Fetched : Type 0
 Fetched = (begin : List Op) (s : Setting) (ks : List Expand) (is : List Placed) → IsTrue (code.fits is)
     → (n j : ℕ) (k : Expand) (i : Placed) (op : Op) → IsNth ks is n k i → slice_get (expansion s k i.op) j ≡ Some op
-    → let to = new_place begin s ks is in slice_get (moved begin s ks is) (index_of begin s ks is n + j) ≡ Some (standing to i.at (to i.at) (expansion s k i.op) j op)
+    → let to = new_place begin s ks is in slice_get (moved begin s ks is) (index_of begin s ks is n + j)
+    ≡ Some (standing to i.at (to i.at) (expansion s k i.op) j op)
 
 -- Each instruction of moved code is one of what it begins with or of an expansion.
 abbrev pub Covered : Type 0

@@ -16,7 +16,8 @@ First = (begin : List Op) (s : Setting) (ks : List Expand) (is : List Placed) �
 -- The expansion of an instruction ends where the old place behind the instruction lies.
 abbrev pub Ends : Type 0
 Ends = (begin : List Op) (s : Setting) (ks : List Expand) (is : List Placed) → IsTrue (code.fits is)
-    → (n : ℕ) (k : Expand) (i : Placed) → IsNth ks is n k i → reach (new_place begin s ks is i.at) (expansion s k i.op) ≡ new_place begin s ks is (i.at + size i.at i.op)
+    → (n : ℕ) (k : Expand) (i : Placed) → IsNth ks is n k i → reach (new_place begin s ks is i.at) (expansion s k i.op)
+    ≡ new_place begin s ks is (i.at + size i.at i.op)
 
 -- New places of instructions rise as the old ones do.
 abbrev pub Rise : Type 0

@@ -29,5 +29,6 @@ pub record InRange (slots enter : ℕ) (s : Setting) (ks : List Expand) : Type 0
 
 -- Moved code of at most 32,767 bytes has a spelling, and its branches lead to instructions.
 abbrev pub Spelled : Type 0
-Spelled = (slots enter : ℕ) (s : Setting) (ks : List Expand) (is : List Placed) → length ks ≡ length is → IsTrue (code.fits is) → InRange slots enter s ks
+Spelled = (slots enter : ℕ) (s : Setting) (ks : List Expand) (is : List Placed) → length ks ≡ length is → IsTrue (code.fits is)
+    → InRange slots enter s ks
     → end_of 0 (lines (prologue slots s enter) s ks is) ≤ 32767 → IsTrue (code.fits (moved (prologue slots s enter) s ks is))

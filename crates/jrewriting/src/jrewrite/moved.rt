@@ -57,7 +57,7 @@ fn error_at(class: u32, error: ClassError) -> RewriteError
 
 /// The moved classes of a program of the source side that is well typed, in its order: those of the moved program. The error is `At`
 /// exactly where a limit is broken, and says the first: class by class, in each its methods in their order, and its pool last.
-#[tactic(auto, unfolding(jground::specs::jbase::FirstFaults::first_along, crate::specs::jrewrite::RewrittenPrograms::limits, crate::specs::jrewrite::RewrittenPrograms::moved))]
+#[tactic(auto, unfolding(jground::specs::jbase::FirstFaults::first_along, crate::specs::jrewrite::RewrittenPrograms::limits, crate::specs::jrewrite::RewrittenPrograms::moved,),)]
 pub fn moved_parts(alloc: Global, p: &LinkedProgram) -> Result<Seq<MovedPart>, RewriteError>
     requires typed { WellTyped p.now }
     requires side { p.now.side ≡ sides.Source }

@@ -52,7 +52,8 @@ fn code_parts(alloc: Global, parts: Seq<MovedPart>) -> Result<Vec<CodePart>, All
 pub fn moved_program(alloc: Global, p: &LinkedProgram) -> Result<LinkedProgram, RewriteError>
     requires typed { WellTyped p.now }
     requires side { p.now.side ≡ sides.Source }
-    ensures moved { MatchResult result (λ q. (RewrittenPrograms.limits p.now ≡ None) × (q ≡ RewrittenPrograms.moved p.now)) (RewriteErrorIs (RewrittenPrograms.limits p.now)) }
+    ensures moved { MatchResult result (λ q. (RewrittenPrograms.limits p.now ≡ None) × (q ≡ RewrittenPrograms.moved p.now))
+        (RewriteErrorIs (RewrittenPrograms.limits p.now)) }
     ensures rewritten { IfOk result IsRewritten }
     // The program that is moved links, and each of its parts is a class file.
     ensures linked { IsLinked p.now }

@@ -25,13 +25,13 @@ use Rattle.jrows.specs.jcalls.MethodCalls.{CalledAs, IsCallee, Reaches, comes, i
 
 -- ---- a frame that begins
 
-begun_some : {E : Type 0} (m : MethodId) (entry : E) (arguments : List (Value ℕ)) (most : ℕ) (o : Option CodeBody)
+pub begun_some : {E : Type 0} (m : MethodId) (entry : E) (arguments : List (Value ℕ)) (most : ℕ) (o : Option CodeBody)
     → option_map (λ (body : CodeBody). body.max_locals) o ≡ Some most
     → option_map (frame_of m entry arguments) o ≡ Some (starting m most arguments entry)
 begun_some m entry arguments most None h = cc
 begun_some m entry arguments most (Some body) h = let e : body.max_locals ≡ most = cc in ap (λ n. Some (starting m n arguments entry)) e
 
-begun_none : {E : Type 0} (m : MethodId) (entry : E) (arguments : List (Value ℕ)) (o : Option CodeBody)
+pub begun_none : {E : Type 0} (m : MethodId) (entry : E) (arguments : List (Value ℕ)) (o : Option CodeBody)
     → option_map (λ (body : CodeBody). body.max_locals) o ≡ None
     → option_map (frame_of m entry arguments) o ≡ None
 begun_none m entry arguments None h = refl

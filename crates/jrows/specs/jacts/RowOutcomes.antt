@@ -77,7 +77,8 @@ GoesFree E = (f : FrameOf ℕ E) (s t : Store ℕ) (told : List Event) (g : Fram
 -- A row of an instruction did what it does wherever this holds of the place.
 abbrev pub ActsWhere : {E : Type 0} → (Site → (Member → Bool) → Type 0) → Instruction → FrameOf ℕ E → Store ℕ → Left E → Type 0
 ActsWhere {E} C i f s l =
-    (r : Rules ℕ E) (at : Site) (own : Member → Bool) (entries : List E) (inherited : Option ℕ) → C at own → Comes f s (doing r at own s entries inherited i f) l
+    (r : Rules ℕ E) (at : Site) (own : Member → Bool) (entries : List E) (inherited : Option ℕ) → C at own
+    → Comes f s (doing r at own s entries inherited i f) l
 
 -- ---- what doesn't go on
 

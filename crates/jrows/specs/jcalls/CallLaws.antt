@@ -18,13 +18,15 @@ use Rattle.jrows.specs.jcalls.MethodCalls.{CalledAs, Takes, calls}
 
 -- Where the library runs, the call comes to that member of it, by the operands that serve,
 abbrev pub TargetsWhatRuns : Type 0 → Type 0
-TargetsWhatRuns E = (r : Rules ℕ E) (p : Program) (plan : Plan) (s : State ℕ E) (count : ℕ) (f g : Framed E) (by : InvokeKind) (c : CallMeaning) (call : LibCall)
+TargetsWhatRuns E = (r : Rules ℕ E) (p : Program) (plan : Plan) (s : State ℕ E) (count : ℕ) (f g : Framed E) (by : InvokeKind) (c : CallMeaning)
+    (call : LibCall)
     → Takes p s by c count f → CalledAs r p plan s count f (ways.Runs call) g (calls r p plan s f by c)
     → target (site r p plan s f.newest f.below) s.store by c (take count f.newest.operands) ≡ Some (Runs call)
 
 -- and the step asks what that member does of them.
 abbrev pub AsksWhatRuns : Type 0 → Type 0
-AsksWhatRuns E = (r : Rules ℕ E) (p : Program) (plan : Plan) (s : State ℕ E) (count : ℕ) (f g : Framed E) (by : InvokeKind) (c : CallMeaning) (call : LibCall)
+AsksWhatRuns E = (r : Rules ℕ E) (p : Program) (plan : Plan) (s : State ℕ E) (count : ℕ) (f g : Framed E) (by : InvokeKind) (c : CallMeaning)
+    (call : LibCall)
     → CalledAs r p plan s count f (ways.Runs call) g (calls r p plan s f by c)
     → asked_by r.side p plan s f.newest f.below (Some (Used (Call by c)))
     ≡ run_asks r.side (site r p plan s f.newest f.below) s.store call (take count f.newest.operands)
@@ -36,6 +38,7 @@ RunsNothing way = ⊤
 
 -- Else it asks nothing.
 abbrev pub AsksNothing : Type 0 → Type 0
-AsksNothing E = (r : Rules ℕ E) (p : Program) (plan : Plan) (s : State ℕ E) (count : ℕ) (f g : Framed E) (by : InvokeKind) (c : CallMeaning) (way : Called)
+AsksNothing E = (r : Rules ℕ E) (p : Program) (plan : Plan) (s : State ℕ E) (count : ℕ) (f g : Framed E) (by : InvokeKind) (c : CallMeaning)
+    (way : Called)
     → RunsNothing way → CalledAs r p plan s count f way g (calls r p plan s f by c)
     → asked_by r.side p plan s f.newest f.below (Some (Used (Call by c))) ≡ None

@@ -36,13 +36,15 @@ told_cells units = two + cells_of (length units)
 
 -- What raising an exception of a class comes to behind these events, with a message of these units: it costs the cells of both, and where
 -- they aren't there nothing changes.
-abbrev pub raising_with : {E : Type 0} → Rules ℕ E → Program → Plan → State ℕ E → List (FrameOf ℕ E) → List Event → LibClass → List ℕ → Outcome (State ℕ E)
+abbrev pub raising_with : {E : Type 0} → Rules ℕ E → Program → Plan → State ℕ E → List (FrameOf ℕ E) → List Event → LibClass → List ℕ
+    → Outcome (State ℕ E)
 raising_with r p plan s frames told class units =
     if nat_le (told_cells units) s.store.left then raised r p plan s frames told (with_raised (paid (told_cells units) s.store) class (Some units))
     else Over s [] HeapFull
 
 -- An exception of a class of the library was raised with a message in these frames, and these were left.
-abbrev pub RaisesWith : {E : Type 0} → List E → (MethodId → ℕ → Option ℕ) → LibClass → List ℕ → Framed E → Heaped → Raised → Framed E → Heaped → Type 0
+abbrev pub RaisesWith : {E : Type 0} → List E → (MethodId → ℕ → Option ℕ) → LibClass → List ℕ → Framed E → Heaped → Raised → Framed E → Heaped
+    → Type 0
 RaisesWith {E} marks goes class units f h way g k = (r : Rules ℕ E) (p : Program) (plan : Plan) (s : State ℕ E) (told : List Event)
     (shapes : Shapes) (things : Things) (constants : List (List ℕ × ℕ)) → let type = types.Object (library_name class) in
     marks ≡ marks_of r.entry_of p → s.store ≡ store_by p shapes things constants h → AllByRecursion (IsTold p type goes) (all f)

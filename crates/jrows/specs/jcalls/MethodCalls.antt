@@ -148,7 +148,8 @@ module _ {E : Type 0} (r : Rules ℕ E) (p : Program) (plan : Plan) (s : State �
       record {
         outcome = executed r p plan s f.newest f.below it;
         asked = asked_by r.side p plan s f.newest f.below it;
-        reached = option_and_then (λ t. target at s.store by c t.values) (call_taken at.world s.store (at.world.named at.class) by c f.newest.operands);
+        reached = option_and_then (λ t. target at s.store by c t.values)
+            (call_taken at.world s.store (at.world.named at.class) by c f.newest.operands);
       }
 
 -- the thread has all the frames that it may have
@@ -171,7 +172,8 @@ CalledAs r p plan s count f ways.Stuck g came = IsQuietly NoStep came
 
 -- so many operands serve for a call
 abbrev pub Takes : {E : Type 0} → Program → State ℕ E → InvokeKind → CallMeaning → ℕ → Framed E → Type 0
-Takes p s by c count f = call_taken (world p) s.store ((world p).named f.newest.method.class) by c f.newest.operands ≡ Some (took count f.newest.operands)
+Takes p s by c count f = call_taken (world p) s.store ((world p).named f.newest.method.class) by c f.newest.operands
+    ≡ Some (took count f.newest.operands)
 
 -- A call did what a step does that executes it, whatever the rules and the state are.
 abbrev pub CallsStatic : {E : Type 0} → ℕ → Selection E → (depth : ℕ) → Framed E → Called → Framed E → Type 0
@@ -223,7 +225,8 @@ CallsByInterface {E} on count what has hidden depth f way g =
 -- what is selected is reached, as the definition has it
 abbrev pub Reaches : {E : Type 0} → ℕ → Selection E → (depth : ℕ) → Framed E → Called → Framed E → Type 0
 Reaches {E} count what depth f way g = (r : Rules ℕ E) (p : Program) (plan : Plan) (s : State ℕ E) (found : Selected)
-    → plan.depth ≡ depth → IsFound r.entry_of p what found → CalledAs r p plan s count f way g (comes r p plan s f count (reached (is_full plan f) found))
+    → plan.depth ≡ depth → IsFound r.entry_of p what found → CalledAs r p plan s count f way g
+    (comes r p plan s f count (reached (is_full plan f) found))
 
 -- ---- which frames a call leaves
 

@@ -37,9 +37,11 @@ raising r p plan s frames told class =
     if nat_le two s.store.left then raised r p plan s frames told (with_raised (paid two s.store) class None) else Over s [] HeapFull
 
 -- The cells for the exception aren't there, and the run is over; or the thread goes on with these frames; or it has ended by the exception.
-abbrev pub RaisedAs : {E : Type 0} → Rules ℕ E → Program → Plan → State ℕ E → List Event → VType → Store ℕ → Raised → Framed E → Outcome (State ℕ E) → Type 0
+abbrev pub RaisedAs : {E : Type 0} → Rules ℕ E → Program → Plan → State ℕ E → List Event → VType → Store ℕ → Raised → Framed E → Outcome (State ℕ E)
+    → Type 0
 RaisedAs r p plan s told type store ways.Full g outcome = outcome ≡ Over s [] HeapFull
-RaisedAs r p plan s told type store ways.Handled g outcome = outcome ≡ went r p plan s (all g) store (told ++ Throw (thread_of s) (told_name type) ∷ [])
+RaisedAs r p plan s told type store ways.Handled g outcome = outcome
+    ≡ went r p plan s (all g) store (told ++ Throw (thread_of s) (told_name type) ∷ [])
 RaisedAs r p plan s told type store ways.Uncaught g outcome =
     outcome ≡ ended plan.schedule s store true (told ++ Throw (thread_of s) (told_name type) ∷ Uncaught (thread_of s) (told_name type) ∷ [])
 

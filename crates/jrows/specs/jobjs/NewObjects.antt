@@ -19,7 +19,8 @@ use Rattle.jrows.specs.declared.jacts.way.Way.TheVariants as ways
 abbrev pub HasNew : {E : Type 0} → Kind → ℕ → Framed E → Heaped → Way → Framed E → Heaped → Type 0
 HasNew kind count s h way t g =
     ((h.left < charge kind count) × (way ≡ ways.Full) × (t ≡ s) × (g ≡ h))
-    ⊎ ((charge kind count < h.left + 1) × (way ≡ ways.Went) × (g ≡ made h kind count) × (t ≡ with_newest (onward s.newest (Ref (length h.objects + 1) ∷ [])) s))
+    ⊎ ((charge kind count < h.left + 1) × (way ≡ ways.Went) × (g ≡ made h kind count)
+    × (t ≡ with_newest (onward s.newest (Ref (length h.objects + 1) ∷ [])) s))
 
 -- ---- objects of users' classes
 

@@ -46,7 +46,8 @@ ServeStore at s values serve = is_some (taken at.world s (operands items.Ref (fo
 -- Whether an array that is there holds what is stored: this is asked where the index is that of an item.
 abbrev pub MayStore : World → Program → Shapes → Store ℕ → Heaped → List (Value ℕ) → Bool → Type 0
 MayStore w p shapes s h values answer =
-    (o a k : ℕ) (i : ℤ) (v : Value ℕ) → slice_get values 0 ≡ Some v → Some i ≡ int_in (slice_get values 1) → helds.Array o a ≡ held_seen h (slice_get values 2)
+    (o a k : ℕ) (i : ℤ) (v : Value ℕ) → slice_get values 0 ≡ Some v → Some i ≡ int_in (slice_get values 1)
+    → helds.Array o a ≡ held_seen h (slice_get values 2)
     → within (length (cells_at h o)) (place i) ≡ Some k → is_one w (component (array_named p (array_at shapes a))) (type_of w s v) ≡ answer
 
 -- What a store at a place that is there left, where it may be written or not,

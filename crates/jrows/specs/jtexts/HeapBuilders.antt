@@ -38,7 +38,8 @@ last_piece h b = named_by (first (cells_at h b))
 
 -- with one more piece, behind another
 abbrev pub with_piece : List ℕ → ℕ → Heaped → Heaped
-with_piece us last h = record h { objects = h.objects ++ record { kind = kinds.Piece; cells = us; before = last } ∷ []; left = h.left - (2 + length us) }
+with_piece us last h =
+    record h { objects = h.objects ++ record { kind = kinds.Piece; cells = us; before = last } ∷ []; left = h.left - (2 + length us) }
 
 -- what the constructor of a text comes to where that is null
 abbrev pub without_text : Value ℕ → Ran

@@ -50,7 +50,8 @@ written h o i (u ∷ us) = written (with_cell h o i u) o (suc i) us
 
 -- with one more object, a text or a piece with these units
 abbrev pub with_units : Kind → List ℕ → Heaped → Heaped
-with_units kind units h = record h { objects = h.objects ++ record { kind = kind; cells = units; before = 0 } ∷ []; left = h.left - (2 + length units) }
+with_units kind units h =
+    record h { objects = h.objects ++ record { kind = kind; cells = units; before = 0 } ∷ []; left = h.left - (2 + length units) }
 
 -- The cells for a text or a piece of these units were left, and it is there; or they weren't, and nothing has changed.
 abbrev pub Puts : Kind → List ℕ → Heaped → Heaped → Option ℕ → Type 0

@@ -41,4 +41,5 @@ flag false = Int (pos 0)
 
 -- A call that costs nothing leaves the store that it made.
 abbrev pub GoesFree : Type 0
-GoesFree = (s t : Store ℕ) (ran : Ran) (told : List Event) (full : Left) → leaves ran told t ≡ (if nat_le 0 s.left then leaves ran told (paid 0 t) else full)
+GoesFree = (s t : Store ℕ) (ran : Ran) (told : List Event) (full : Left)
+    → leaves ran told t ≡ (if nat_le 0 s.left then leaves ran told (paid 0 t) else full)

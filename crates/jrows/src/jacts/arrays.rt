@@ -114,7 +114,8 @@ fn put_made<M: Copy>(frames: &mut Frames<M>, made: Option<u32>) -> Way
     requires place { frames.old.newest.place + 1 < 2 ^ 32 }
     requires few { 1 ≤ length frames.old.newest.operands }
     ensures { MatchOption made ((result ≡ ways.Full) × (frames.new ≡ frames.old)) (λ o. (result ≡ ways.Went)
-        × (frames.new ≡ with_newest (standing frames.old.newest (frames.old.newest.place + 1) (values.Ref o ∷ drop 1 frames.old.newest.operands)) frames.old)) }
+        × (frames.new ≡ with_newest
+        (standing frames.old.newest (frames.old.newest.place + 1) (values.Ref o ∷ drop 1 frames.old.newest.operands)) frames.old)) }
 {
     match made {
         None => Way::Full,

@@ -65,7 +65,7 @@ pub fn goto<M: Copy>(frames: &mut Frames<M>, to: u32) -> Way
 
 /// A branch that tests an int against 0 (JVMS 6.5: ifeq to ifle).
 #[inline]
-#[tactic(auto, using(crate::proofs::JactsProofs::JumpRows::if_done, crate::proofs::JactsProofs::JumpRows::if_stuck, crate::proofs::JactsProofs::JumpRows::has_one))]
+#[tactic(auto, using(crate::proofs::JactsProofs::JumpRows::if_done, crate::proofs::JactsProofs::JumpRows::if_stuck, crate::proofs::JactsProofs::JumpRows::has_one,),)]
 pub fn jump_if<M: Copy>(frames: &mut Frames<M>, c: Compare, to: u32) -> Way
     requires { frames.old.newest.place + 1 < 2 ^ 32 }
     ensures row { Does (instructions.Jump (instructions.If c) to) frames.old.newest result frames.new.newest }
@@ -81,7 +81,7 @@ pub fn jump_if<M: Copy>(frames: &mut Frames<M>, c: Compare, to: u32) -> Way
 
 /// A branch that compares two ints (JVMS 6.5: if_icmpeq to if_icmple).
 #[inline]
-#[tactic(auto, using(crate::proofs::JactsProofs::JumpRows::if_int_done, crate::proofs::JactsProofs::JumpRows::if_int_stuck, crate::proofs::JactsProofs::JumpRows::if_int_alone, crate::proofs::JactsProofs::JumpRows::has_two))]
+#[tactic(auto, using(crate::proofs::JactsProofs::JumpRows::if_int_done, crate::proofs::JactsProofs::JumpRows::if_int_stuck, crate::proofs::JactsProofs::JumpRows::if_int_alone, crate::proofs::JactsProofs::JumpRows::has_two,),)]
 pub fn jump_if_int<M: Copy>(frames: &mut Frames<M>, c: Compare, to: u32) -> Way
     requires { frames.old.newest.place + 1 < 2 ^ 32 }
     ensures row { Does (instructions.Jump (instructions.IfInt c) to) frames.old.newest result frames.new.newest }
@@ -111,7 +111,8 @@ pub fn switch_key<M: Copy>(frames: &Frames<M>) -> Option<i32>
 #[tactic(auto, using(crate::proofs::JactsProofs::JumpRows::switched, crate::proofs::JactsProofs::JumpRows::has_one))]
 pub fn switch<M: Copy>(frames: &mut Frames<M>, key: i32, to: u32) -> Way
     requires { Some key ≡ int_in (slice_get frames.old.newest.operands 0) }
-    ensures row { (cases : List (ℤ × ℕ)) (other : ℕ) → to ≡ case_of key cases other → Does (instructions.Switch cases other) frames.old.newest result frames.new.newest }
+    ensures row { (cases : List (ℤ × ℕ)) (other : ℕ) → to ≡ case_of key cases other
+        → Does (instructions.Switch cases other) frames.old.newest result frames.new.newest }
     ensures below { frames.new.below ≡ frames.old.below }
     ensures rests { Rests result frames.old frames.new }
 {

@@ -62,7 +62,7 @@ fn put_local<M: Copy>(frames: &mut Frames<M>, n: usize, value: Value)
 }
 
 #[inline]
-#[tactic(auto, using(crate::proofs::JactsProofs::LocalInstructions::loaded_on, crate::proofs::JactsProofs::LocalInstructions::load_stuck, crate::proofs::JactsProofs::LocalInstructions::load_other))]
+#[tactic(auto, using(crate::proofs::JactsProofs::LocalInstructions::loaded_on, crate::proofs::JactsProofs::LocalInstructions::load_stuck, crate::proofs::JactsProofs::LocalInstructions::load_other,),)]
 fn load<M: Copy>(frames: &mut Frames<M>, kind: LocalKind, n: u16) -> Result<Way, AllocError>
     requires { frames.old.newest.place + 1 < 2 ^ 32 }
     ensures row { IfOk result (λ way. Does (instructions.Local (Move Load kind n)) frames.old.newest way frames.new.newest) }
@@ -81,7 +81,7 @@ fn load<M: Copy>(frames: &mut Frames<M>, kind: LocalKind, n: u16) -> Result<Way,
 }
 
 #[inline]
-#[tactic(auto, using(crate::proofs::JactsProofs::LocalInstructions::stored_on, crate::proofs::JactsProofs::LocalInstructions::store_short, crate::proofs::JactsProofs::LocalInstructions::store_other, crate::proofs::JactsProofs::LocalInstructions::store_outside))]
+#[tactic(auto, using(crate::proofs::JactsProofs::LocalInstructions::stored_on, crate::proofs::JactsProofs::LocalInstructions::store_short, crate::proofs::JactsProofs::LocalInstructions::store_other, crate::proofs::JactsProofs::LocalInstructions::store_outside,),)]
 fn store<M: Copy>(frames: &mut Frames<M>, kind: LocalKind, n: u16) -> Way
     requires { frames.old.newest.place + 1 < 2 ^ 32 }
     ensures row { Does (instructions.Local (Move Store kind n)) frames.old.newest result frames.new.newest }
@@ -134,7 +134,7 @@ fn increased(x: i32, by: i16) -> Value
 }
 
 #[inline]
-#[tactic(auto, using(crate::proofs::JactsProofs::LocalInstructions::increased_on, crate::proofs::JactsProofs::LocalInstructions::increase_stuck, crate::proofs::JactsProofs::LocalInstructions::has_local))]
+#[tactic(auto, using(crate::proofs::JactsProofs::LocalInstructions::increased_on, crate::proofs::JactsProofs::LocalInstructions::increase_stuck, crate::proofs::JactsProofs::LocalInstructions::has_local,),)]
 fn increment<M: Copy>(frames: &mut Frames<M>, n: u16, by: i16) -> Way
     requires { frames.old.newest.place + 1 < 2 ^ 32 }
     ensures row { Does (instructions.Local (Increment n by)) frames.old.newest result frames.new.newest }

@@ -33,7 +33,8 @@ pub(crate) fn give_for<M: Copy>(frames: &mut Frames<M>, n: usize, value: Value)
     requires place { frames.old.newest.place + 1 < 2 ^ 32 }
     requires some { 0 < n }
     requires few { n ≤ length frames.old.newest.operands }
-    ensures { frames.new ≡ with_newest (standing frames.old.newest (frames.old.newest.place + 1) (value ∷ drop n frames.old.newest.operands)) frames.old }
+    ensures { frames.new ≡ with_newest
+        (standing frames.old.newest (frames.old.newest.place + 1) (value ∷ drop n frames.old.newest.operands)) frames.old }
 {
     frames.replace(n, value);
     frames.go_on();
@@ -69,7 +70,7 @@ fn push_long<M: Copy>(frames: &mut Frames<M>, n: i64) -> Result<Way, AllocError>
 }
 
 #[inline]
-#[tactic(auto, using(crate::proofs::JactsProofs::OperandInstructions::two_done, crate::proofs::JactsProofs::OperandInstructions::two_stuck, crate::proofs::JactsProofs::OperandInstructions::two_short))]
+#[tactic(auto, using(crate::proofs::JactsProofs::OperandInstructions::two_done, crate::proofs::JactsProofs::OperandInstructions::two_stuck, crate::proofs::JactsProofs::OperandInstructions::two_short,),)]
 fn compute_two<M: Copy>(frames: &mut Frames<M>, op: OpTwo) -> Way
     requires { frames.old.newest.place + 1 < 2 ^ 32 }
     ensures row { Does (instructions.Simple (simples.Two op)) frames.old.newest result frames.new.newest }
@@ -89,7 +90,7 @@ fn compute_two<M: Copy>(frames: &mut Frames<M>, op: OpTwo) -> Way
 }
 
 #[inline]
-#[tactic(auto, using(crate::proofs::JactsProofs::OperandInstructions::one_done, crate::proofs::JactsProofs::OperandInstructions::one_stuck, crate::proofs::JactsProofs::OperandInstructions::one_short))]
+#[tactic(auto, using(crate::proofs::JactsProofs::OperandInstructions::one_done, crate::proofs::JactsProofs::OperandInstructions::one_stuck, crate::proofs::JactsProofs::OperandInstructions::one_short,),)]
 fn compute_one<M: Copy>(frames: &mut Frames<M>, op: OpOne) -> Way
     requires { frames.old.newest.place + 1 < 2 ^ 32 }
     ensures row { Does (instructions.Simple (simples.One op)) frames.old.newest result frames.new.newest }
@@ -109,7 +110,7 @@ fn compute_one<M: Copy>(frames: &mut Frames<M>, op: OpOne) -> Way
 }
 
 #[inline]
-#[tactic(auto, using(crate::proofs::JactsProofs::OperandInstructions::divided, crate::proofs::JactsProofs::OperandInstructions::by_zero, crate::proofs::JactsProofs::OperandInstructions::division_stuck, crate::proofs::JactsProofs::OperandInstructions::division_short))]
+#[tactic(auto, using(crate::proofs::JactsProofs::OperandInstructions::divided, crate::proofs::JactsProofs::OperandInstructions::by_zero, crate::proofs::JactsProofs::OperandInstructions::division_stuck, crate::proofs::JactsProofs::OperandInstructions::division_short,),)]
 fn divide<M: Copy>(frames: &mut Frames<M>, op: Division) -> Way
     requires { frames.old.newest.place + 1 < 2 ^ 32 }
     ensures row { Does (instructions.Simple (simples.Divide op)) frames.old.newest result frames.new.newest }
@@ -131,7 +132,7 @@ fn divide<M: Copy>(frames: &mut Frames<M>, op: Division) -> Way
 
 /// An instruction that pushes a number or null, or computes with numbers (JVMS 6.5). A division by 0 raises an exception.
 #[inline]
-#[tactic(auto, using(crate::proofs::JactsProofs::OperandInstructions::nothing_done, crate::proofs::JactsProofs::OperandInstructions::null_done, crate::proofs::JactsProofs::OperandInstructions::int_done, crate::proofs::JactsProofs::OperandInstructions::long_done))]
+#[tactic(auto, using(crate::proofs::JactsProofs::OperandInstructions::nothing_done, crate::proofs::JactsProofs::OperandInstructions::null_done, crate::proofs::JactsProofs::OperandInstructions::int_done, crate::proofs::JactsProofs::OperandInstructions::long_done,),)]
 pub fn simple<M: Copy>(frames: &mut Frames<M>, form: Simple) -> Result<Way, AllocError>
     requires { frames.old.newest.place + 1 < 2 ^ 32 }
     ensures row { IfOk result (λ way. Does (instructions.Simple form) frames.old.newest way frames.new.newest) }

@@ -75,7 +75,7 @@ fn raise<M: Copy>(frames: &mut Frames<M>, count: usize, class: Thrown) -> Called
 
 /// A frame of a user's method begins, where it has code and there is room.
 #[inline]
-#[tactic(auto, using(crate::proofs::JcallsProofs::MethodEntry::enterings, crate::proofs::JcallsProofs::FrameStability::raised_thrown, crate::proofs::JcallsProofs::FrameStability::raised_stands, crate::proofs::JcallsProofs::FrameStability::begun_stands))]
+#[tactic(auto, using(crate::proofs::JcallsProofs::MethodEntry::enterings, crate::proofs::JcallsProofs::FrameStability::raised_thrown, crate::proofs::JcallsProofs::FrameStability::raised_stands, crate::proofs::JcallsProofs::FrameStability::begun_stands,),)]
 fn enter<M: Copy>(
     frames: &mut Frames<M>,
     count: usize,
@@ -100,7 +100,7 @@ fn enter<M: Copy>(
 
 /// What is selected is reached.
 #[inline]
-#[tactic(auto, using(crate::proofs::JcallsProofs::MethodEntry::reachings, crate::proofs::JcallsProofs::FrameStability::raised_thrown, crate::proofs::JcallsProofs::FrameStability::raised_stands))]
+#[tactic(auto, using(crate::proofs::JcallsProofs::MethodEntry::reachings, crate::proofs::JcallsProofs::FrameStability::raised_thrown, crate::proofs::JcallsProofs::FrameStability::raised_stands,),)]
 fn reach<M: Copy>(
     frames: &mut Frames<M>,
     count: usize,

@@ -8,7 +8,8 @@ use jruntime::jstate::Frames;
 #[inline]
 pub(crate) fn unmark<M: Copy>(frames: &mut Frames<M>, marks: &[M])
     requires { frames.old.newest.method.class < length marks.now }
-    ensures { Some frames.new ≡ option_map (λ mark. with_newest (carrying mark frames.old.newest) frames.old) (slice_get marks.now frames.old.newest.method.class) }
+    ensures { Some frames.new ≡ option_map (λ mark. with_newest (carrying mark frames.old.newest) frames.old)
+        (slice_get marks.now frames.old.newest.method.class) }
 {
     frames.carry(marks[frames.method().class as usize]);
 }

@@ -101,7 +101,7 @@ pub fn first_cell(heap: &Heap, o: u32) -> u64
 
 /// Whether an object holds what its class needs.
 #[inline(always)]
-#[tactic(auto, using(crate::proofs::JcallsProofs::ReadyObjects::holds_permission, crate::proofs::JcallsProofs::ReadyObjects::holds_context, crate::proofs::JcallsProofs::ReadyObjects::holds_thread))]
+#[tactic(auto, using(crate::proofs::JcallsProofs::ReadyObjects::holds_permission, crate::proofs::JcallsProofs::ReadyObjects::holds_context, crate::proofs::JcallsProofs::ReadyObjects::holds_thread,),)]
 fn holds(heap: &Heap, o: u32, needs: Needs, counts: Counts) -> bool
     requires { is_some (object_at heap.now o) ≡ true }
     ensures counted { result ≡ holds_counted counts (cells_at heap.now o) needs }
@@ -133,7 +133,7 @@ pub fn is_ready(heap: &Heap, o: u32, kind: Kind, counts: Counts) -> bool
 
 /// Whether a value is null or names an object that may be used.
 #[inline]
-#[tactic(auto, using(crate::proofs::JcallsProofs::ReadyObjects::none_ready, crate::proofs::JcallsProofs::ReadyObjects::object_there, crate::proofs::JcallsProofs::ReadyObjects::object_ready))]
+#[tactic(auto, using(crate::proofs::JcallsProofs::ReadyObjects::none_ready, crate::proofs::JcallsProofs::ReadyObjects::object_there, crate::proofs::JcallsProofs::ReadyObjects::object_ready,),)]
 pub(crate) fn is_reference(heap: &Heap, value: Value, counts: Counts) -> bool
     ensures { (things : Things) → AreCounted counts things → result ≡ Readiness.is_reference things heap.now value }
 {

@@ -64,7 +64,7 @@ fn resume<M: Copy>(
 
 /// The newest frame goes, and the one below goes on behind its call.
 #[inline]
-#[tactic(auto, using(crate::proofs::JcallsProofs::MethodReturns::ended_so, crate::proofs::JcallsProofs::FrameStability::last_stands, crate::proofs::JcallsProofs::FrameStability::resumed_stands))]
+#[tactic(auto, using(crate::proofs::JcallsProofs::MethodReturns::ended_so, crate::proofs::JcallsProofs::FrameStability::last_stands, crate::proofs::JcallsProofs::FrameStability::resumed_stands,),)]
 fn leave<M: Copy>(
     frames: &mut Frames<M>,
     marks: &[M],

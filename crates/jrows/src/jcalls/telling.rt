@@ -21,9 +21,11 @@ use std::alloc::{AllocError, Global};
 fn make_thrown(alloc: Global, heap: &mut Heap, number: u32, message: u32) -> Result<u32, AllocError>
     requires built { AreBuilt heap.old.objects }
     requires room { 2 ≤ heap.old.left }
-    ensures made { IfOk result (λ o. (class : Class) → number ≡ library_number class → HoldsMessage class → MakesThrown class message heap.old o heap.new) }
+    ensures made { IfOk result
+        (λ o. (class : Class) → number ≡ library_number class → HoldsMessage class → MakesThrown class message heap.old o heap.new) }
     ensures built { OnOk result ((class : Class) → number ≡ library_number class → HoldsMessage class → AreBuilt heap.new.objects) }
-    ensures celled { OnOk result ((class : Class) → number ≡ library_number class → HoldsMessage class → StayCelled heap.old.objects heap.new.objects) }
+    ensures celled { OnOk result
+        ((class : Class) → number ≡ library_number class → HoldsMessage class → StayCelled heap.old.objects heap.new.objects) }
 {
     heap_laws();
     number_laws();

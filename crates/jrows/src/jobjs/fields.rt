@@ -50,7 +50,8 @@ pub(crate) fn give_one<M: Copy>(frames: &mut Frames<M>, value: Value) -> Way
     requires place { frames.old.newest.place + 1 < 2 ^ 32 }
     requires few { 1 ≤ length frames.old.newest.operands }
     ensures way { result ≡ ways.Went }
-    ensures frames { frames.new ≡ with_newest (standing frames.old.newest (frames.old.newest.place + 1) (value ∷ drop 1 frames.old.newest.operands)) frames.old }
+    ensures frames { frames.new
+        ≡ with_newest (standing frames.old.newest (frames.old.newest.place + 1) (value ∷ drop 1 frames.old.newest.operands)) frames.old }
 {
     frames.replace(1, value);
     frames.go_on();
@@ -204,7 +205,8 @@ pub fn put_field<M: Copy>(
     ensures row { (p : Program) (shapes : Shapes) (things : Things) (constants : List (List ℕ × ℕ)) (f : FieldMeaning) (of : CellKind) →
         let s = store_by p shapes things constants heap.old in
         ActsWhere (λ (at : Site) (own : Member → Bool). Serve at own s (meanings.Field ops.PutField f) frames.old.newest.operands serve
-        × StandsAt at.world shapes heap.old f.member (slice_get frames.old.newest.operands 1) slot of × KeepsAs p at.world f.member narrow × HoldsOnly at.world s f.held of)
+        × StandsAt at.world shapes heap.old f.member (slice_get frames.old.newest.operands 1) slot of × KeepsAs p at.world f.member narrow
+        × HoldsOnly at.world s f.held of)
         (instructions.Used (meanings.Field ops.PutField f)) frames.old.newest s (leaves result [] frames.new.newest (store_by p shapes things constants heap.new)) }
     ensures stays { Stays result frames.old.newest frames.new.newest }
     ensures below { frames.new.below ≡ frames.old.below }

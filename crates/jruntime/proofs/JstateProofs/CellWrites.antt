@@ -18,6 +18,7 @@ use Rattle.jruntime.specs.jstate.ClassNumbers.{class_numbered}
 use Rattle.jruntime.specs.jstate.HeapMeanings.{Things, built_at, built_by, first, item_type, kind_by, message_by, named_by, object_by, objects_by, piece_units, values_of}
 use Rattle.jruntime.specs.jstate.HeapMeaningLaws.{IsNoPiece, Reads, ReadsNone, Writes, WritesField, WritesItem, WritesStatic, with_number}
 use Rattle.jruntime.proofs.JstateProofs.HeapAbstraction.{class_alike, front_same}
+use Rattle.jruntime.proofs.JguestsProofs.ThreadLists.{map_set}
 
 -- ---- pieces stay
 
@@ -105,11 +106,6 @@ pub writes_field : WritesField
 writes_field c i n t shape cells is =
     let there = slice_get_within shape.cells i t is in
     ap₂ (λ (rest : List ℕ) (vs : List (Value ℕ)). Instance c (message_by shape.message rest) vs) (drop-set-lt (length shape.cells) cells i n there) (values_set shape.cells cells i n t is)
-
-map_set : {A B : Type 0} (f : A → B) (xs : List A) (i : ℕ) (x : A) → map f (slice_set xs i x) ≡ slice_set (map f xs) i (f x)
-map_set f [] i x = refl
-map_set f (y ∷ xs) zero x = refl
-map_set f (y ∷ xs) (suc i) x = ap (λ ys. f y ∷ ys) (map_set f xs i x)
 
 pub writes_item : WritesItem
 writes_item p a cells i n = ap (Array (array_named p a)) (map_set (of_raw (item_type a)) cells i n)

@@ -26,7 +26,8 @@ holding operands s = with_newest (with_operands s.newest operands) s
 -- the newest has these locals
 abbrev pub keeping : {E : Type 0} → List (Option (Value ℕ)) → Framed E → Framed E
 keeping {E} locals s =
-    let f : FrameOf ℕ E = record { method = s.newest.method; place = s.newest.place; locals = locals; operands = s.newest.operands; entry = s.newest.entry } in
+    let f : FrameOf ℕ E =
+    record { method = s.newest.method; place = s.newest.place; locals = locals; operands = s.newest.operands; entry = s.newest.entry } in
     with_newest f s
 
 -- ---- frames that begin and go
@@ -70,4 +71,5 @@ shown at mark below marks locals operands = record {
 -- with which a pile begins.
 abbrev pub Lies : {E : Type 0} → E → List At → List E → Piled (Option (Value ℕ)) → Piled (Value ℕ) → Type 0
 Lies mark below marks locals operands =
-    (reverse marks ≡ mark ∷ older marks) × (length marks ≡ length below + 1) × (length locals.below ≡ length below + 1) × (length operands.below ≡ length below + 1)
+    (reverse marks ≡ mark ∷ older marks) × (length marks ≡ length below + 1) × (length locals.below ≡ length below + 1)
+    × (length operands.below ≡ length below + 1)

@@ -65,7 +65,8 @@ Reads = (types : List CellType) (cells : List ℕ) (i n : ℕ) (t : CellType) �
 
 -- There are no values where there are no cells, nor where there are no types.
 abbrev pub ReadsNone : Type 0
-ReadsNone = (types : List CellType) (cells : List ℕ) (i : ℕ) → (slice_get types i ≡ None) ⊎ (slice_get cells i ≡ None) → slice_get (values_of types cells) i ≡ None
+ReadsNone = (types : List CellType) (cells : List ℕ) (i : ℕ) → (slice_get types i ≡ None) ⊎ (slice_get cells i ≡ None)
+    → slice_get (values_of types cells) i ≡ None
 
 -- A static that is written changes that static alone.
 abbrev pub WritesStatic : Type 0
@@ -93,23 +94,27 @@ WrittenStaysBuilt = (h : Heaped) (o i n : ℕ) (x : heaps.Object) → heaps.obje
 
 -- One more object, whatever its cells hold, is one more, and is paid; the others stay as they are.
 abbrev pub AddsOne : Type 0
-AddsOne = (p : Program) (shapes : Shapes) (things : Things) (constants : List (List ℕ × ℕ)) (h : Heaped) (x : heaps.Object) (cost : ℕ) → AreBuilt h.objects
+AddsOne = (p : Program) (shapes : Shapes) (things : Things) (constants : List (List ℕ × ℕ)) (h : Heaped) (x : heaps.Object) (cost : ℕ)
+    → AreBuilt h.objects
     → store_by p shapes things constants (record h { objects = h.objects ++ x ∷ []; left = h.left - cost })
     ≡ paid cost (with_made (store_by p shapes things constants h) (object_by p shapes (h.objects ++ x ∷ []) things x))
 
 -- It keeps what holds of the pieces, where those are there that it names.
 abbrev pub MoreStaysBuilt : Type 0
-MoreStaysBuilt = (objects : List heaps.Object) (x : heaps.Object) → AreBuilt objects → x.before ≤ length objects → last_of x.kind x.cells ≤ length objects + 1
+MoreStaysBuilt = (objects : List heaps.Object) (x : heaps.Object) → AreBuilt objects → x.before ≤ length objects
+    → last_of x.kind x.cells ≤ length objects + 1
     → AreBuilt (objects ++ x ∷ [])
 
 -- So does a cell that is written, where the piece is there that its object names then.
 abbrev pub NamedStaysBuilt : Type 0
-NamedStaysBuilt = (h : Heaped) (o i n : ℕ) (x : heaps.Object) → heaps.object_at h o ≡ Some x → NamesWithin (length h.objects) (with_number i n x) → AreBuilt h.objects
+NamedStaysBuilt = (h : Heaped) (o i n : ℕ) (x : heaps.Object) → heaps.object_at h o ≡ Some x → NamesWithin (length h.objects) (with_number i n x)
+    → AreBuilt h.objects
     → AreBuilt (heaps.with_cell h o i n).objects
 
 -- What a piece and those in front of it hold stays where there are more objects.
 abbrev pub KeepsPieces : Type 0
-KeepsPieces = (objects more : List heaps.Object) → AreBuilt objects → (k o : ℕ) → o ≤ k → o ≤ length objects → built_by k (objects ++ more) o ≡ built objects o
+KeepsPieces = (objects more : List heaps.Object) → AreBuilt objects → (k o : ℕ) → o ≤ k → o ≤ length objects
+    → built_by k (objects ++ more) o ≡ built objects o
 
 -- As many steps as its number are enough to the first piece.
 abbrev pub IsEnough : Type 0

@@ -84,5 +84,6 @@ WantsAsClass = (shapes : Shapes) (c : ClassRef) → kind_cells shapes (kinds.Obj
 
 -- The object of a number has a cell, where its kind wants more than so many.
 abbrev pub HasWanted : Type 0
-HasWanted = (shapes : Shapes) (h : Heaped) (o i n : ℕ) (kind : Kind) → AreCelled shapes h.objects → heaps.kind_at h o ≡ Some kind → kind_cells shapes kind ≡ Some n → i < n
+HasWanted = (shapes : Shapes) (h : Heaped) (o i n : ℕ) (kind : Kind) → AreCelled shapes h.objects → heaps.kind_at h o ≡ Some kind
+    → kind_cells shapes kind ≡ Some n → i < n
     → heaps.HasCell h o i

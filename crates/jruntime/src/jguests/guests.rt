@@ -51,7 +51,8 @@ impl<M: Copy> Guests<M> {
     #[tactic(auto, using(crate::proofs::JguestsProofs::ThreadMembership::husk_waits))]
     pub fn open(alloc: Global, frames: Frames<M>) -> Result<Guests<M>, AllocError>
         ensures are { IfOk result AreGuests }
-        ensures one { IfOk result (λ g. guests_of g ≡ guest_by (record { frames = Some frames; inherited = None; runnable = 0; failed = false }) ∷ []) }
+        ensures one { IfOk result
+            (λ g. guests_of g ≡ guest_by (record { frames = Some frames; inherited = None; runnable = 0; failed = false }) ∷ []) }
         ensures now { IfOk result (λ g. g.running ≡ record { frames = Some frames; inherited = None; runnable = 0; failed = false }) }
         ensures alone { IfOk result NoneWait }
         ensures lives { IfOk result Lives }
@@ -87,7 +88,8 @@ impl<M: Copy> Guests<M> {
         requires { AreGuests self.old }
         ensures are { OnOk result (AreGuests self.new) }
         ensures number { IfOk result (λ t. t ≡ length self.old.table) }
-        ensures one_more { OnOk result (guests_of self.new ≡ guests_of self.old ++ (record { frames = []; inherited = inherited; runnable = runnable; failed = false }) ∷ []) }
+        ensures one_more { OnOk result
+            (guests_of self.new ≡ guests_of self.old ++ (record { frames = []; inherited = inherited; runnable = runnable; failed = false }) ∷ []) }
         ensures table { OnOk result (self.new.table ≡ added self.old.table) }
         ensures turns { OnOk result (self.new.turns ≡ self.old.turns) }
         ensures at { OnOk result (self.new.at ≡ self.old.at) }

@@ -131,7 +131,8 @@ impl<M: Copy> Guests<M> {
         requires are { AreGuests self.old }
         requires lives { Lives self.old }
         ensures are { AreGuests self.new }
-        ensures table { self.new ≡ with_table (table_after_end self.old.at self.old.table) (with_running (ended_as failed self.old.running) self.old) }
+        ensures table { self.new ≡ with_table (table_after_end self.old.at self.old.table)
+            (with_running (ended_as failed self.old.running) self.old) }
         ensures wait { AwaitLiving self.new.table }
     {
         self.running.frames = None;

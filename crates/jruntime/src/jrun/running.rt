@@ -100,7 +100,8 @@ pub fn run<E: Stepping, K: Sink>(
     requires { E.ready engine.old }
     ensures written { OnOk result ((first : Run E.State) → Begins (E.stands engine.old) first
         → K.out out.new ≡ appended (K.out out.old) (run_text (run_from (E.steps engine.old) steps first))) }
-    ensures end { IfOk result (λ end. (first : Run E.State) → Begins (E.stands engine.old) first → end ≡ ending (run_from (E.steps engine.old) steps first)) }
+    ensures end { IfOk result
+        (λ end. (first : Run E.State) → Begins (E.stands engine.old) first → end ≡ ending (run_from (E.steps engine.old) steps first)) }
     ensures cut { OnErr result ((first : Run E.State) → Begins (E.stands engine.old) first
         → IsCut (K.out out.old) (K.out out.new) (run_text (run_from (E.steps engine.old) steps first))) }
     ensures later { K.faults out.old ≤ K.faults out.new }

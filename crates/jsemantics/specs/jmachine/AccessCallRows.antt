@@ -52,7 +52,8 @@ module _ {K E : Type 0} (r : Rules K E) (at : Site) (s : Store K) (entries : Lis
   -- Thread, whose constructor keeps what the thread inherits
   unfoldable pub thread_row : ThreadCall → List (Value K) → Option (Row K E)
   thread_row (calls.Init Source) (Ref runnable ∷ Ref n ∷ []) = thread_made at s n runnable (r.inherit None entries inherited) (object_at s n)
-  thread_row (calls.Init Passing) (Ctx k ∷ Ref runnable ∷ Ref n ∷ []) = thread_made at s n runnable (r.inherit (Some k) entries inherited) (object_at s n)
+  thread_row (calls.Init Passing) (Ctx k ∷ Ref runnable ∷ Ref n ∷ []) =
+      thread_made at s n runnable (r.inherit (Some k) entries inherited) (object_at s n)
   thread_row call values = thread at s call values
 
   -- the methods of the passing side, which are given a context or a domain

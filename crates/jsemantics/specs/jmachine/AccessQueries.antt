@@ -202,7 +202,8 @@ answer_map f g (Allowed p) = Allowed (privilege_map f g p)
 
 -- two machines' rules answer this ask alike
 abbrev pub AgreeAt : {K L E F : Type 0} → (K → L) → (E → F) → Rules K E → Rules L F → List E → Option K → Ask K → Type 0
-AgreeAt f g r q entries inherited ask = answer_map f g (answer r entries inherited ask) ≡ answer q (map g entries) (option_map f inherited) (ask_map f ask)
+AgreeAt f g r q entries inherited ask = answer_map f g (answer r entries inherited ask)
+    ≡ answer q (map g entries) (option_map f inherited) (ask_map f ask)
 
 -- they do where anything is asked
 abbrev pub AgreeWhere : {K L E F : Type 0} → (K → L) → (E → F) → Rules K E → Rules L F → List E → Option K → Option (Ask K) → Type 0

@@ -110,7 +110,8 @@ with_local locals n v = if is_long v then slice_set (slice_set locals n (Some v)
 
 abbrev pub stored : {K : Type 0} → Kind → ℕ → List (Option (Value K)) → List (Value K) → Option (Held K)
 stored kind n locals [] = None
-stored kind n locals (v ∷ operands) = if is_of kind v && nat_le (n + length (places v)) (length locals) then Some (holding (with_local locals n v) operands) else None
+stored kind n locals (v ∷ operands) = if is_of kind v && nat_le (n + length (places v)) (length locals) then Some
+    (holding (with_local locals n v) operands) else None
 
 abbrev pub increased : {K : Type 0} → Held K → ℕ → ℤ → Value K → Option (Held K)
 increased h n by y = elim y [ Int x ↦ Some (holding (slice_set h.locals n (Some (int (x +ℤ by)))) h.operands) | _ ↦ None ]

@@ -35,7 +35,8 @@ get_from w m (Some (Instance class message values)) = option_and_then (slice_get
 get_from w m x = None
 
 abbrev pub put_into : {K : Type 0} → World → Member → Value K → Option (Object K) → Option (Object K)
-put_into w m v (Some (Instance class message values)) = option_map (Instance class message) (option_and_then (with_place values (narrowed (w.element m) v)) (w.slot m))
+put_into w m v (Some (Instance class message values)) = option_map (Instance class message)
+    (option_and_then (with_place values (narrowed (w.element m) v)) (w.slot m))
 put_into w m v x = None
 
 -- ---- all

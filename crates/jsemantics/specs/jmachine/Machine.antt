@@ -13,7 +13,12 @@ use Rattle.jsemantics.specs.jmachine.MachineSteps.{step}
 
 -- where the heap has too few cells to open, the run has ended
 abbrev pub opening : {K E : Type 0} → Rules K E → Program → Plan → Run (State K E)
-opening r p plan = record { state = opening_state r p plan.main plan.heap; events = []; end = if nat_le (opening_charge p) plan.heap then None else Some ends.HeapFull }
+opening r p plan = record {
+  state = opening_state r p plan.main plan.heap;
+  events = [];
+  end =
+      if nat_le (opening_charge p) plan.heap then None else Some ends.HeapFull;
+}
 
 -- the run after so many steps
 unfoldable pub run : {K E : Type 0} → Rules K E → Program → Plan → ℕ → Run (State K E)

@@ -57,7 +57,16 @@ own_fields p m = is_own p (is_init p m) ((world p).named m.class)
 
 -- what the rows of an instruction know of its frame and of those below
 abbrev pub site_of : {K E : Type 0} → Program → Plan → State K E → FrameOf K E → List (FrameOf K E) → Site
-site_of p plan s f below = record { world = world p; class = f.method.class; thread = thread_of s; full = nat_le plan.depth (length (f ∷ below)); cwd = plan.cwd; table = s.table }
+site_of p plan s f below =
+    record {
+      world = world p;
+      class = f.method.class;
+      thread = thread_of s;
+      full = nat_le plan.depth (length (f ∷ below));
+      cwd = plan.cwd;
+      table =
+          s.table;
+    }
 
 module _ {K E : Type 0} (r : Rules K E) (p : Program) (plan : Plan) (s : State K E) where
   -- ---- outcomes
@@ -68,7 +77,8 @@ module _ {K E : Type 0} (r : Rules K E) (p : Program) (plan : Plan) (s : State K
   -- the exception leaves its thread's last frame, or is handled
   abbrev pub thrown_to : Store K → List Event → VType → Option (List (FrameOf K E)) → Outcome (State K E)
   thrown_to store events class (Some frames) = went frames store (events ++ Throw (thread_of s) (told_name class) ∷ [])
-  thrown_to store events class None = ended plan.schedule s store true (events ++ Throw (thread_of s) (told_name class) ∷ Uncaught (thread_of s) (told_name class) ∷ [])
+  thrown_to store events class None = ended plan.schedule s store true
+      (events ++ Throw (thread_of s) (told_name class) ∷ Uncaught (thread_of s) (told_name class) ∷ [])
 
   -- an object is thrown, which has a number
   abbrev pub thrown : List (FrameOf K E) → Store K → List Event → ℕ → Option (Object K) → Outcome (State K E)
@@ -103,10 +113,12 @@ module _ {K E : Type 0} (r : Rules K E) (p : Program) (plan : Plan) (s : State K
   acted frames cells (Goes store values events) = on_newest frames (λ f below. went (onward f values ∷ below) (paid cells store) events)
   acted frames cells (Jumps to) = on_newest frames (λ f below. went (standing f to f.operands ∷ below) (paid cells s.store) [])
   acted frames cells (Leaves values) = on_newest frames (λ f below. left below (paid cells s.store) values)
-  acted frames cells (Calls m arguments entry) = pushed (all_marked entry frames) (paid cells s.store) (begun p m (r.entry_of (domain_of p m)) arguments)
+  acted frames cells (Calls m arguments entry) = pushed (all_marked entry frames) (paid cells s.store)
+      (begun p m (r.entry_of (domain_of p m)) arguments)
   acted frames cells (Raises events class message) = raised frames events (with_raised (paid cells s.store) class message)
   acted frames cells (Throws n) = thrown_at frames (paid cells s.store) [] n
-  acted frames cells (Switches table) = on_newest frames (λ f below. turned plan.schedule (with_table (with_running s (onward f [] ∷ below) (paid cells s.store)) table) [])
+  acted frames cells (Switches table) =
+      on_newest frames (λ f below. turned plan.schedule (with_table (with_running s (onward f [] ∷ below) (paid cells s.store)) table) [])
   acted frames cells (Makes store runnable kept) = on_newest frames (λ f below.
       Went (with_guest (with_running s (onward f [] ∷ below) (paid cells store)) (guest runnable kept)) [])
 

@@ -132,7 +132,8 @@ pub record RulesAgree {K L E F : Type 0} (f : K → L) (g : E → F) (r : Rules 
   pub inherit : (ctx : Option K) (entries : List E) (inherited : Option K)
       → f (r.inherit ctx entries inherited) ≡ q.inherit (option_map f ctx) (map g entries) (option_map f inherited)
   pub privileged : (domain : Option ℕ) (ctx given : Option K) (limits : Option (List Permission)) (entries : List E)
-      → privilege_map f g (r.privileged domain ctx given limits entries) ≡ q.privileged domain (option_map f ctx) (option_map f given) limits (map g entries)
+      → privilege_map f g (r.privileged domain ctx given limits entries)
+      ≡ q.privileged domain (option_map f ctx) (option_map f given) limits (map g entries)
 
 -- Then they answer each ask alike,
 abbrev pub AnswersAlike : Type 0 → Type 0 → Type 0 → Type 0 → Type 0

@@ -111,4 +111,5 @@ abbrev pub main_guest : {K E : Type 0} → Rules K E → Program → MethodId �
 main_guest r p m = record { frames = option_to_list (main_frame r p m); inherited = None; runnable = 0; failed = false }
 
 unfoldable pub opening_state : {K E : Type 0} → Rules K E → Program → MethodId → ℕ → State K E
-opening_state r p m heap = record { earlier = []; running = main_guest r p m; later = []; table = threads.opened; store = opening_store p heap; turns = 0 }
+opening_state r p m heap =
+    record { earlier = []; running = main_guest r p m; later = []; table = threads.opened; store = opening_store p heap; turns = 0 }

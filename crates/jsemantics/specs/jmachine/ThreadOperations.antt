@@ -21,7 +21,8 @@ number_in x = None
 
 -- a thread is started once
 abbrev pub started : {K E : Type 0} → Site → ℕ → Row K E
-started at t = if is_started at.table t then raises (lib.Thrown thrown.IllegalThreadStateException) else free (Switches (table_after_start t at.table))
+started at t = if is_started at.table t then raises (lib.Thrown thrown.IllegalThreadStateException) else free
+    (Switches (table_after_start t at.table))
 
 abbrev pub joined_by : {K E : Type 0} → Site → Store K → ℕ → Joined → Row K E
 joined_by at s t x = elim x [ AtOnce ↦ gives s [] | Waits ↦ free (Switches (joined at.thread t at.table)) ]

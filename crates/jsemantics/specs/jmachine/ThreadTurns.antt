@@ -28,7 +28,8 @@ with_table s table = record s { table = table }
 
 -- the running thread has ended
 abbrev pub with_ended : {K E : Type 0} → State K E → Store K → Bool → State K E
-with_ended s store failed = record s { running = record s.running { frames = []; failed = failed }; table = table_after_end (thread_of s) s.table; store = store }
+with_ended s store failed =
+    record s { running = record s.running { frames = []; failed = failed }; table = table_after_end (thread_of s) s.table; store = store }
 
 -- there is one more thread, which isn't started
 abbrev pub with_guest : {K E : Type 0} → State K E → GuestOf K E → State K E

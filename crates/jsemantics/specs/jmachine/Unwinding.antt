@@ -67,7 +67,8 @@ handler_at p thrown m i = option_and_then (λ c. option_and_then (handler_in p t
 abbrev pub resumed : {K E : Type 0} → (ℕ → E) → Program → FrameOf K E → ℕ → List (Value K) → FrameOf K E
 resumed entry_of p f place operands = carrying (entry_of (domain_of p f.method)) (standing f place operands)
 
-abbrev pub caught : {K E : Type 0} → (ℕ → E) → Program → ℕ → FrameOf K E → List (FrameOf K E) → Option ℕ → Option (List (FrameOf K E)) → Option (List (FrameOf K E))
+abbrev pub caught : {K E : Type 0} → (ℕ → E) → Program → ℕ → FrameOf K E → List (FrameOf K E) → Option ℕ → Option (List (FrameOf K E))
+    → Option (List (FrameOf K E))
 caught entry_of p n f below x rest = elim x [ Some to ↦ Some (resumed entry_of p f to (Ref n ∷ []) ∷ below) | None ↦ rest ]
 
 -- The frames that are left where the object of a number is thrown: the newest one that handles its class goes on with it alone. None

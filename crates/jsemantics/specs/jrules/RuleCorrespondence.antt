@@ -26,9 +26,11 @@ HeldChecksAlike = (has : ℕ → Permission → Bool) (asked : Permission) (s : 
 
 -- What getContext and a Thread keep corresponds, likewise.
 pub record KeepsAlike : Type 0 where
-  pub snapshot : (has : ℕ → Permission → Bool) (entries : List Carried) (below : Option Stack) (none : List (Unit {0})) (inherited : Option (List Item))
+  pub snapshot : (has : ℕ → Permission → Bool) (entries : List Carried) (below : Option Stack) (none : List (Unit {0}))
+      (inherited : Option (List Item))
       → along ((inspecting.rules has).snapshot None entries below) ≡ (plain.rules has).snapshot (Some (context_of entries below)) none inherited
-  pub inherit : (has : ℕ → Permission → Bool) (entries : List Carried) (below : Option Stack) (none : List (Unit {0})) (inherited : Option (List Item))
+  pub inherit : (has : ℕ → Permission → Bool) (entries : List Carried) (below : Option Stack) (none : List (Unit {0}))
+      (inherited : Option (List Item))
       → along ((inspecting.rules has).inherit None entries below) ≡ (plain.rules has).inherit (Some (context_of entries below)) none inherited
 
 -- A method of a domain that is called enters the context of its caller,
@@ -44,7 +46,8 @@ BeginsAlike = (has : ℕ → Permission → Bool) (s : Stack) (d : ℕ)
 -- the stack within a privilege of the newest frame, which is marked
 abbrev pub within : (ℕ → Permission → Bool) → Option Stack → Option (List Permission) → List Carried → Option Stack → Stack
 within has given limits [] below = stack_of [] below
-within has given limits (e ∷ entries) below = stack_of (((inspecting.rules has).privileged None None given limits (e ∷ entries)).caller ∷ entries) below
+within has given limits (e ∷ entries) below =
+    stack_of (((inspecting.rules has).privileged None None given limits (e ∷ entries)).caller ∷ entries) below
 
 -- a privilege is handed the context of the method that takes it where there are limits alone
 abbrev pub handed_with : Option (List Permission) → List Item → Option (List Item)

@@ -38,6 +38,7 @@ use Rattle.jrows.specs.declared.jcalls.receiver.Receiver.TheVariants as receiver
 use Rattle.jserving.specs.declared.jinvoke.choosing.CallKey.{CallKey}
 use Rattle.jserving.specs.jinvoke.Answers.{answer, answer_to, chosen, id_on, in_meaning, number_by}
 use Rattle.jserving.specs.jinvoke.InvokeOutcomes.{CallWithin, IsMarked, MemberWithin, answer_at}
+use Rattle.jlinking.proofs.JlinkProofs.MethodSelection.{either_is}
 
 there : {A : Type 0} (xs : List A) (n : ℕ) (y : A) → slice_get xs n ≡ Some y → n < length xs
 there {A} xs n y e = by_cases (slice_get_cases xs n).1
@@ -60,12 +61,6 @@ each_found : (q : Member → Type 0) (f : List ℕ → Option Member) → ((c : 
     → Each q (filter_map f names)
 each_found q f h [] = tt
 each_found q f h (c ∷ names) = each_cons q (f c) (filter_map f names) (λ x e. h c x e) (each_found q f h names)
-
-either_is : (q : Member → Type 0) (b : Bool) (m x : Member) (rest : Option Member) → q m → (rest ≡ Some x → q x) → (if b then Some m else rest) ≡ Some x → q x
-either_is q true m x rest one h e =
-    let same : m ≡ x = cc in
-    subst q same one
-either_is q false m x rest one h e = h e
 
 taking_is : (q : Member → Type 0) (p : Program) (r x : Member) (ms : List Member) → Each q ms → first_taking p r ms ≡ Some x → q x
 unfolding first_taking

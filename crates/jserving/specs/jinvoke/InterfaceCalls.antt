@@ -46,7 +46,8 @@ TargetAs entry_of p ways.Stuck t = (t ≡ None) ⊎ ((call : LibCall) × (t ≡ 
 -- A call of the method on the object of a number comes to this, where these are what the rules give to frames of each class.
 abbrev pub FaceTarget : {E : Type 0} → Program → List E → Heaped → LibClass → LibCall → (full : Bool) → ℕ → Target E → Type 0
 FaceTarget {E} p marks h face call full o t = (entry_of : ℕ → E) (shapes : Shapes) (things : Things) (constants : List (List ℕ × ℕ))
-    → marks ≡ marks_of entry_of p → TargetAs entry_of p t (option_map (by_interface (world p) full (face_call face call)) (object_at (store_by p shapes things constants h) o))
+    → marks ≡ marks_of entry_of p
+    → TargetAs entry_of p t (option_map (by_interface (world p) full (face_call face call)) (object_at (store_by p shapes things constants h) o))
 
 -- a method that is called is of one of so many classes
 abbrev pub TargetWithin : {E : Type 0} → ℕ → Target E → Type 0

@@ -60,7 +60,8 @@ MemberWithin p m = ⊤
 
 -- So is the method that the entry at an index of a class's pool names for such a call.
 abbrev pub CallWithin : Program → ℕ → InvokeKind → ℕ → Type 0
-CallWithin p class by pool = (way : InvokeKind) (c : CallMeaning) → meant p (pool_at p class) (call_form by pool) ≡ Some (Call way c) → MemberWithin p c.member
+CallWithin p class by pool = (way : InvokeKind) (c : CallMeaning) → meant p (pool_at p class) (call_form by pool) ≡ Some (Call way c)
+    → MemberWithin p c.member
 
 -- ---- what a step comes to
 

@@ -40,7 +40,8 @@ fn plain_cell(cell: CellType) -> CellType
 
 /// The cells of the statics of a program.
 fn statics_of(alloc: Global, ready: &Ready<'_>) -> Result<Seq<CellType>, AllocError>
-    ensures { IfOk result (λ cells. cells ≡ map (λ (x : CodePart × MemberInfo). field_cell ready.now.program x.0 x.1) (all_statics ready.now.program)) }
+    ensures { IfOk result
+        (λ cells. cells ≡ map (λ (x : CodePart × MemberInfo). field_cell ready.now.program x.0 x.1) (all_statics ready.now.program)) }
 {
     let mut cells = Seq::new(alloc);
     let rows = ready.statics();

@@ -190,7 +190,7 @@ fn element_fits(a: &Ancestors<'_>, asked: Asked, x: ElementRef, y: ElementRef) -
 }
 
 /// Whether an array fits another one.
-#[tactic(auto, using(crate::proofs::JfitsProofs::TypeFits::fewer, crate::proofs::JfitsProofs::TypeFits::more, crate::proofs::JfitsProofs::TypeFits::as_many))]
+#[tactic(auto, using(crate::proofs::JfitsProofs::TypeFits::fewer, crate::proofs::JfitsProofs::TypeFits::more, crate::proofs::JfitsProofs::TypeFits::as_many,),)]
 fn array_fits(a: &Ancestors<'_>, asked: Asked, x: ArrayRef, y: ArrayRef) -> bool
     ensures { result ≡ Assignability.array_fits (above_by a.now asked) (tree_by a.now asked) x.depth (element_named a.now x.element)
         y.depth (element_named a.now y.element) }

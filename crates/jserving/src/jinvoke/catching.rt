@@ -75,7 +75,7 @@ fn handled_at(
 impl<'k, 'p> Handlers for ThrownAs<'k, 'p> {
     ghost goes = { λ t m i. handler_at t.known.now (types.Object (class_named t.known.now t.class)) m i };
 
-    #[tactic(auto, using(crate::proofs::JinvokeProofs::HandlerLookup::without_code, crate::proofs::JinvokeProofs::HandlerLookup::behind_code, crate::proofs::JinvokeProofs::HandlerLookup::within_code))]
+    #[tactic(auto, using(crate::proofs::JinvokeProofs::HandlerLookup::without_code, crate::proofs::JinvokeProofs::HandlerLookup::behind_code, crate::proofs::JinvokeProofs::HandlerLookup::within_code,),)]
     fn find(&self, method: MethodId, place: u32) -> Option<u32> {
         let ready = self.known.ready();
         let Some(row) = ready.row_of(method) else {

@@ -88,7 +88,7 @@ pub fn number_of(kind: Kind) -> Option<u32>
 
 /// What a call asks of the class of its object, which is of a kind: the heap's number for it. Where the class doesn't matter it asks nothing.
 #[inline]
-#[tactic(auto, using(crate::proofs::JinvokeProofs::ReceiverClasses::special_alike, crate::proofs::JinvokeProofs::ReceiverClasses::static_alike, crate::proofs::JinvokeProofs::ReceiverClasses::init_alike))]
+#[tactic(auto, using(crate::proofs::JinvokeProofs::ReceiverClasses::special_alike, crate::proofs::JinvokeProofs::ReceiverClasses::static_alike, crate::proofs::JinvokeProofs::ReceiverClasses::init_alike,),)]
 pub(crate) fn asked_of(by: InvokeKind, kind: Kind) -> Option<u32>
     ensures { (p : Program) (class pool : ℕ) → Answers.answer p (key class by pool result) ≡ Answers.answer p (key class by pool (number_by kind)) }
 {
@@ -213,7 +213,8 @@ impl<'p> MethodLookup<'p> {
     }
 
     fn selected(&self, key: CallKey, call: &CallUse) -> Selected
-        ensures { (types : List TypeRef) → result ≡ selected_on (world self.now) key.class key.by (call_named self.now types call.now) (id_on key.on) }
+        ensures { (types : List TypeRef) → result ≡ selected_on (world self.now) key.class key.by (call_named self.now types call.now)
+            (id_on key.on) }
     {
         match key.by {
             InvokeKind::Virtual => self.select(id_of(key.on), call.member, CallKind::Virtual),

@@ -33,7 +33,8 @@ pub enum Target<M> {
 /// What is selected is reached, by a thread that has all frames that it may have, or not.
 #[tactic(auto, using(crate::proofs::JinvokeProofs::InterfaceCalls::facings))]
 fn reached<M: Copy>(what: Selection<M>, full: bool) -> Target<M>
-    ensures target { (entry_of : ℕ → M) (p : Program) (s : Selected) → IsFound entry_of p what s → TargetAs entry_of p result (Some (reached_target full s)) }
+    ensures target { (entry_of : ℕ → M) (p : Program) (s : Selected) → IsFound entry_of p what s
+        → TargetAs entry_of p result (Some (reached_target full s)) }
     ensures within { (classes : ℕ) → FoundWithin classes what → TargetWithin classes result }
 {
     match what {
@@ -50,11 +51,12 @@ fn reached<M: Copy>(what: Selection<M>, full: bool) -> Target<M>
 }
 
 /// What a call comes to of which this is known: the object's class has the interface, and what is selected is public.
-#[tactic(auto, using(crate::proofs::JinvokeProofs::InterfaceCalls::wrong, crate::proofs::JinvokeProofs::InterfaceCalls::hidden, crate::proofs::JinvokeProofs::InterfaceCalls::reached_so, crate::proofs::JinvokeProofs::InterfaceCalls::reached_within))]
+#[tactic(auto, using(crate::proofs::JinvokeProofs::InterfaceCalls::wrong, crate::proofs::JinvokeProofs::InterfaceCalls::hidden, crate::proofs::JinvokeProofs::InterfaceCalls::reached_so, crate::proofs::JinvokeProofs::InterfaceCalls::reached_within,),)]
 fn target_by<M: Copy>(answer: Answer, full: bool, marks: &[M]) -> Target<M>
     requires { IsMarked (length marks.now) answer.what }
     ensures target { (entry_of : ℕ → M) (p : Program) (s : Selected) → marks.now ≡ marks_of entry_of p → answer.what ≡ chosen p s
-        → TargetAs entry_of p result (Some (unless (or_else (fault_if (not answer.has) wrong_class) (fault_if answer.hidden no_access)) (reached_target full s))) }
+        → TargetAs entry_of p result
+        (Some (unless (or_else (fault_if (not answer.has) wrong_class) (fault_if answer.hidden no_access)) (reached_target full s))) }
     ensures within { TargetWithin (length marks.now) result }
 {
     if !answer.has {
@@ -69,7 +71,7 @@ fn target_by<M: Copy>(answer: Answer, full: bool, marks: &[M]) -> Target<M>
 impl<'p> Calls<'p> {
     /// What a call comes to of a method of an interface of the library on the object of a number (JVMS 6.5: invokeinterface), by a thread
     /// that has all frames that it may have, or not. `marks` are what the frames of each class carry.
-    #[tactic(auto, using(crate::proofs::JinvokeProofs::InterfaceCalls::face_marked, crate::proofs::JinvokeProofs::InterfaceCalls::no_object, crate::proofs::JinvokeProofs::InterfaceCalls::one_object))]
+    #[tactic(auto, using(crate::proofs::JinvokeProofs::InterfaceCalls::face_marked, crate::proofs::JinvokeProofs::InterfaceCalls::no_object, crate::proofs::JinvokeProofs::InterfaceCalls::one_object,),)]
     pub fn by_interface<M: Copy>(
         &mut self,
         heap: &Heap,

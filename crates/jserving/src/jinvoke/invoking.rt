@@ -78,7 +78,7 @@ impl<'p> Calls<'p> {
 
     /// A call of a static method.
     #[inline]
-    #[tactic(auto, using(crate::proofs::JinvokeProofs::InvokeOutcomes::static_marked, crate::proofs::JinvokeProofs::InvokeOutcomes::static_invoked, crate::proofs::JinvokeProofs::InvokeOutcomes::stands_on))]
+    #[tactic(auto, using(crate::proofs::JinvokeProofs::InvokeOutcomes::static_marked, crate::proofs::JinvokeProofs::InvokeOutcomes::static_invoked, crate::proofs::JinvokeProofs::InvokeOutcomes::stands_on,),)]
     fn invoke_static<M: Copy>(
         &mut self,
         frames: &mut Frames<M>,
@@ -114,7 +114,7 @@ impl<'p> Calls<'p> {
 
     /// A call on an object, whose class isn't asked for an interface.
     #[inline]
-    #[tactic(auto, using(crate::proofs::JinvokeProofs::InvokeOutcomes::on_marked, crate::proofs::JinvokeProofs::InvokeOutcomes::on_invoked, crate::proofs::JinvokeProofs::InvokeOutcomes::stands_on))]
+    #[tactic(auto, using(crate::proofs::JinvokeProofs::InvokeOutcomes::on_marked, crate::proofs::JinvokeProofs::InvokeOutcomes::on_invoked, crate::proofs::JinvokeProofs::InvokeOutcomes::stands_on,),)]
     fn invoke_on<M: Copy>(
         &mut self,
         frames: &mut Frames<M>,
@@ -145,7 +145,7 @@ impl<'p> Calls<'p> {
 
     /// A call by an interface.
     #[inline]
-    #[tactic(auto, using(crate::proofs::JinvokeProofs::InvokeOutcomes::on_marked, crate::proofs::JinvokeProofs::InvokeOutcomes::face_invoked, crate::proofs::JinvokeProofs::InvokeOutcomes::stands_on))]
+    #[tactic(auto, using(crate::proofs::JinvokeProofs::InvokeOutcomes::on_marked, crate::proofs::JinvokeProofs::InvokeOutcomes::face_invoked, crate::proofs::JinvokeProofs::InvokeOutcomes::stands_on,),)]
     fn invoke_by_interface<M: Copy>(
         &mut self,
         frames: &mut Frames<M>,

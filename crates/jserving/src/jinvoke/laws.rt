@@ -19,7 +19,7 @@ pub fn within_laws()
 {}
 
 /// The laws of steps: the machine executes what an instruction by number stands for. They have no body to run; the contract is the laws.
-#[tactic(auto, using(crate::proofs::JinvokeProofs::InvokeSteps::steps_at, crate::proofs::JinvokeProofs::InvokeSteps::steps_user, crate::proofs::JinvokeProofs::InvokeSteps::steps_library))]
+#[tactic(auto, using(crate::proofs::JinvokeProofs::InvokeSteps::steps_at, crate::proofs::JinvokeProofs::InvokeSteps::steps_user, crate::proofs::JinvokeProofs::InvokeSteps::steps_library,),)]
 pub fn step_laws<M>()
     ensures at { StepsAt M }
     ensures user { StepsUser M }

@@ -95,7 +95,8 @@ impl<'p> MethodLookup<'p> {
     /// Whether a handler of the class at an index of a part's pool catches an object of a class.
     #[tactic(auto, using(crate::proofs::JinvokeProofs::ClassMembership::caught_none, crate::proofs::JinvokeProofs::ClassMembership::caught_some))]
     pub fn is_caught(&self, thrown: ClassRef, class: u32, pool: u16) -> bool
-        ensures { result ≡ Unwinding.is_caught self.now (types.Object (class_named self.now thrown)) (class_at self.now (pool_at self.now class) pool) }
+        ensures { result ≡ Unwinding.is_caught self.now (types.Object (class_named self.now thrown))
+            (class_at self.now (pool_at self.now class) pool) }
     {
         match self.program.uses().class_at(class, pool) {
             None => false,

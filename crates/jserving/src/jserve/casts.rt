@@ -95,7 +95,8 @@ pub fn ref_serves<M: Copy>(x: &Objects<'_>, frames: &Frames<M>) -> bool
 /// Whether the operands of a branch that tests references serve (JVMS 6.5: if_acmpeq, if_acmpne, ifnull, ifnonnull).
 #[inline]
 pub fn refs_serve<M: Copy>(x: &Objects<'_>, frames: &Frames<M>, test: RefTest) -> bool
-    ensures { (p : Program) (s : Store ℕ) → IsStore p x.now s → is_some (taken (world p) s (of_kinds (compared test)) frames.now.newest.operands) ≡ result }
+    ensures { (p : Program) (s : Store ℕ) → IsStore p x.now s
+        → is_some (taken (world p) s (of_kinds (compared test)) frames.now.newest.operands) ≡ result }
 {
     heap_laws();
     match test {
@@ -120,7 +121,7 @@ pub fn thrown_serves<M: Copy>(a: &Ancestors<'_>, x: &Objects<'_>, frames: &Frame
 
 /// Whether what a value names is one of a type.
 #[inline]
-#[tactic(auto, using(crate::proofs::JserveProofs::ReferenceTypes::none_is, crate::proofs::JserveProofs::ReferenceTypes::some_is), unfolding(jsemantics::specs::jmachine::World::world))]
+#[tactic(auto, using(crate::proofs::JserveProofs::ReferenceTypes::none_is, crate::proofs::JserveProofs::ReferenceTypes::some_is), unfolding(jsemantics::specs::jmachine::World::world),)]
 fn value_is(a: &Ancestors<'_>, x: &Objects<'_>, value: Value, t: TypeRef) -> bool
     ensures { result ≡ ObjectInstructions.is_one (world a.now) (named a.now t) (option_map (named a.now) (type_in x.now value)) }
 {
@@ -178,7 +179,8 @@ fn component(array: ArrayRef) -> TypeRef
 /// Whether a value may be stored into an array of a type (JVMS 6.5: aastore).
 #[inline]
 pub fn is_stored(a: &Ancestors<'_>, x: &Objects<'_>, value: Value, array: ArrayRef) -> bool
-    ensures { (s : Store ℕ) → IsStore a.now x.now s → result ≡ is_one (world a.now) (component (array_named a.now array)) (type_of (world a.now) s value) }
+    ensures { (s : Store ℕ) → IsStore a.now x.now s → result ≡ is_one (world a.now) (component (array_named a.now array))
+        (type_of (world a.now) s value) }
 {
     heap_laws();
     value_is(a, x, value, component(array))

@@ -53,7 +53,7 @@ pub fn put_static_serves<M: Copy>(
 /// Whether a value serves as the object whose field is written. An object of the class `this` does, too, where this is one of its own fields
 /// and an `<init>` writes it.
 #[inline]
-#[tactic(auto, using(crate::proofs::JserveProofs::FieldOperands::not_own, crate::proofs::JserveProofs::FieldOperands::no_type, crate::proofs::JserveProofs::FieldOperands::own_type), unfolding(jsemantics::specs::jmachine::World::world))]
+#[tactic(auto, using(crate::proofs::JserveProofs::FieldOperands::not_own, crate::proofs::JserveProofs::FieldOperands::no_type, crate::proofs::JserveProofs::FieldOperands::own_type,), unfolding(jsemantics::specs::jmachine::World::world),)]
 fn written_serves(
     a: &Ancestors<'_>,
     x: &Objects<'_>,
@@ -83,7 +83,8 @@ fn written_serves_at<M: Copy>(
     this: ClassRef,
     owner: ClassRef,
 ) -> bool
-    ensures { result ≡ one_serves (serves_in a.now x.now) (written own (class_named a.now this) (class_named a.now owner)) (slice_get frames.now.newest.operands 1) }
+    ensures { result ≡ one_serves (serves_in a.now x.now) (written own (class_named a.now this) (class_named a.now owner))
+        (slice_get frames.now.newest.operands 1) }
 {
     if 1 >= frames.count() {
         return false;

@@ -11,7 +11,7 @@ use jvalues::jops::Value;
 
 /// Whether a value serves where one of a type is wanted.
 #[inline]
-#[tactic(auto, using(crate::proofs::JserveProofs::FittingOperands::no_type, crate::proofs::JserveProofs::FittingOperands::of_type), unfolding(jsemantics::specs::jmachine::World::world))]
+#[tactic(auto, using(crate::proofs::JserveProofs::FittingOperands::no_type, crate::proofs::JserveProofs::FittingOperands::of_type), unfolding(jsemantics::specs::jmachine::World::world),)]
 pub(crate) fn serves(a: &Ancestors<'_>, x: &Objects<'_>, want: TypeRef, value: Value) -> bool
     ensures { result ≡ serves_in a.now x.now (Fits (named a.now want)) value }
 {
@@ -64,7 +64,8 @@ pub(crate) fn object_serves<M: Copy>(
     params: &[TypeRef],
     object: TypeRef,
 ) -> bool
-    ensures { result ≡ all_serve (serves_in a.now x.now) (map Fits (map (named a.now) params.now) ++ Fits (named a.now object) ∷ []) frames.now.newest.operands }
+    ensures { result ≡ all_serve (serves_in a.now x.now)
+        (map Fits (map (named a.now) params.now) ++ Fits (named a.now object) ∷ []) frames.now.newest.operands }
 {
     if !params_serve(a, x, frames, params) {
         return false;

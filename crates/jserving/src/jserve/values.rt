@@ -34,7 +34,7 @@ pub(crate) fn kind_type(shapes: &Shapes, kind: Kind) -> TypeRef
 
 /// The type of the object of a number, if it is there and may be used.
 #[inline]
-#[tactic(auto, using(crate::proofs::JserveProofs::ValueTypes::none_there, crate::proofs::JserveProofs::ValueTypes::object_there, crate::proofs::JserveProofs::ValueTypes::object_ready, crate::proofs::JserveProofs::ValueTypes::object_bare))]
+#[tactic(auto, using(crate::proofs::JserveProofs::ValueTypes::none_there, crate::proofs::JserveProofs::ValueTypes::object_there, crate::proofs::JserveProofs::ValueTypes::object_ready, crate::proofs::JserveProofs::ValueTypes::object_bare,),)]
 fn object_type(x: &Objects<'_>, o: u32) -> Option<TypeRef>
     ensures { result ≡ option_and_then (ValueTypes.object_type x.now.shapes.now x.now.counts) (object_at x.now.heap.now o) }
 {

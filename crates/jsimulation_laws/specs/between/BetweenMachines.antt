@@ -82,5 +82,9 @@ shadowed has = record {
   check_kept = λ asked c. verdict has asked c;
   snapshot = λ ctx entries inherited. unwrap_or ctx [];
   inherit = λ ctx entries inherited. unwrap_or ctx [];
-  privileged = λ d ctx given limits entries. record { caller = marked (Privileged given limits) entries; context = Some (privileged (unwrap_or d 0) given limits (unwrap_or ctx [])) };
+  privileged = λ d ctx given limits entries. record {
+    caller = marked (Privileged given limits) entries;
+    context =
+        Some (privileged (unwrap_or d 0) given limits (unwrap_or ctx []));
+  };
 }

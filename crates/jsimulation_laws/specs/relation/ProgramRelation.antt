@@ -80,7 +80,8 @@ abbrev pub there : Program → Site → Site
 there q at = record at { world = world q }
 
 -- a call stands at a number in a method, and took these of the operands
-pub record Calling (p : Program) (m : MethodId) (at : Site) (s : Store (List Item)) (by : InvokeKind) (c : CallMeaning) (operands : List (Value (List Item)))
+pub record Calling (p : Program) (m : MethodId) (at : Site) (s : Store (List Item)) (by : InvokeKind) (c : CallMeaning)
+    (operands : List (Value (List Item)))
     (t : Taken (List Item)) : Type 0 where
   pub number : ℕ
   pub is : fetched p m number ≡ Some (Used (Call by c))
@@ -100,16 +101,20 @@ run_of side = record { owner = library_name lib.Runnable; params = []; ret = Non
 -- what calls come to in a program and in the moved one
 pub record SameCalls (p q : Program) : Type 0 where
   -- A call that hands on a context comes to the same method, or to the same member of the library as the passing side has it,
-  pub handed : (m : MethodId) (at : Site) (s : Store (List Item)) (by : InvokeKind) (c : CallMeaning) (operands : List (Value (List Item))) (t : Taken (List Item)) (k : List Item)
+  pub handed : (m : MethodId) (at : Site) (s : Store (List Item)) (by : InvokeKind) (c : CallMeaning) (operands : List (Value (List Item)))
+      (t : Taken (List Item)) (k : List Item)
       → Calling p m at s by c operands t → way_of c.member ≡ Handed
       → target (there q at) s by (handed c) (Ctx k ∷ t.values) ≡ option_map moved_target (target at s by c t.values)
-  pub to_handed : (m : MethodId) (at : Site) (s : Store (List Item)) (by : InvokeKind) (c : CallMeaning) (operands : List (Value (List Item))) (t : Taken (List Item)) (to : Target)
+  pub to_handed : (m : MethodId) (at : Site) (s : Store (List Item)) (by : InvokeKind) (c : CallMeaning) (operands : List (Value (List Item)))
+      (t : Taken (List Item)) (to : Target)
       → Calling p m at s by c operands t → way_of c.member ≡ Handed → target at s by c t.values ≡ Some to → comes_handed to ≡ true
   -- and one that hands on none to the same member, which knows of none.
-  pub alone : (m : MethodId) (at : Site) (s : Store (List Item)) (by : InvokeKind) (c : CallMeaning) (operands : List (Value (List Item))) (t : Taken (List Item))
+  pub alone : (m : MethodId) (at : Site) (s : Store (List Item)) (by : InvokeKind) (c : CallMeaning) (operands : List (Value (List Item)))
+      (t : Taken (List Item))
       → Calling p m at s by c operands t → way_of c.member ≡ Alone
       → target (there q at) s by c t.values ≡ target at s by c t.values
-  pub to_alone : (m : MethodId) (at : Site) (s : Store (List Item)) (by : InvokeKind) (c : CallMeaning) (operands : List (Value (List Item))) (t : Taken (List Item)) (to : Target)
+  pub to_alone : (m : MethodId) (at : Site) (s : Store (List Item)) (by : InvokeKind) (c : CallMeaning) (operands : List (Value (List Item)))
+      (t : Taken (List Item)) (to : Target)
       → Calling p m at s by c operands t → way_of c.member ≡ Alone → target at s by c t.values ≡ Some to → comes_alone to ≡ true
   -- a method of AccessController, and what stands for it
   pub asks : (m : MethodId) (n : ℕ) (by : InvokeKind) (c : CallMeaning) (call : ControllerCall)
@@ -117,12 +122,15 @@ pub record SameCalls (p q : Program) : Type 0 where
   pub controller : (call : ControllerCall) → (world p).itself (LibMethod (calls.Controller call)) ≡ selected.Lib (calls.Controller call)
   pub rt : (call : RtCall) → (world q).itself (LibMethod (calls.Rt call)) ≡ selected.Lib (calls.Rt call)
   -- `run` of an action and of a Runnable, which are called without an instruction
-  pub actions : (full : Bool) (x : Object (List Item)) → by_interface (world q) full (run_action Passing) x ≡ moved_target (by_interface (world p) full (run_action Source) x)
-  pub runs : (full : Bool) (x : Object (List Item)) → by_interface (world q) full (run_of Passing) x ≡ moved_target (by_interface (world p) full (run_of Source) x)
+  pub actions : (full : Bool) (x : Object (List Item)) → by_interface (world q) full (run_action Passing) x
+      ≡ moved_target (by_interface (world p) full (run_action Source) x)
+  pub runs : (full : Bool) (x : Object (List Item)) → by_interface (world q) full (run_of Passing) x
+      ≡ moved_target (by_interface (world p) full (run_of Source) x)
 
 -- how many slots a method has, where a call comes to it: those that its values take, and one for `run`, which is given its object, and for `main`
 pub record Fills (p q : Program) (codes : (m : MethodId) (body : CodeBody) → code_at p m ≡ Some body → MovedCode p q m body) : Type 0 where
-  pub calls : (m callee : MethodId) (at : Site) (s : Store (List Item)) (by : InvokeKind) (c : CallMeaning) (operands : List (Value (List Item))) (t : Taken (List Item))
+  pub calls : (m callee : MethodId) (at : Site) (s : Store (List Item)) (by : InvokeKind) (c : CallMeaning) (operands : List (Value (List Item)))
+      (t : Taken (List Item))
       (body : CodeBody) (is : code_at p callee ≡ Some body)
       → Calling p m at s by c operands t → target at s by c t.values ≡ Some (Pushes callee) → places_of t.values ≡ (codes callee body is).slots
   pub actions : (full : Bool) (x : Object (List Item)) (callee : MethodId) (body : CodeBody) (is : code_at p callee ≡ Some body)

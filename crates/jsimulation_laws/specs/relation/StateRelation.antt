@@ -120,8 +120,10 @@ behind has q plan t = step (shadowed has) q plan t
 
 -- Each step of a program is answered by as many of the moved one as its instruction tells,
 abbrev pub LocallyFollows : Type 0
-LocallyFollows = (has : ℕ → Permission → Bool) (p q : Program) (plan : Plan) → Moves p q → FollowsIn (Stands p q) (before has p plan) (behind has q plan) (steps p)
+LocallyFollows = (has : ℕ → Permission → Bool) (p q : Program) (plan : Plan) → Moves p q
+    → FollowsIn (Stands p q) (before has p plan) (behind has q plan) (steps p)
 
 -- and so by 1 to 7.
 abbrev pub FollowsInFew : Type 0
-FollowsInFew = (has : ℕ → Permission → Bool) (p q : Program) (plan : Plan) → Moves p q → Follows (Stands p q) (before has p plan) (behind has q plan) 7
+FollowsInFew = (has : ℕ → Permission → Bool) (p q : Program) (plan : Plan) → Moves p q
+    → Follows (Stands p q) (before has p plan) (behind has q plan) 7

@@ -87,7 +87,8 @@ KeepsAll {S} {T} R = (fast : S → Outcome S) (slow : T → Outcome T) (most : �
 -- What the other tells until it ends, it tells too.
 abbrev pub EndsAll : {S T : Type 0} → (S → T → Type 0) → Type 0
 EndsAll {S} {T} R = (fast : S → Outcome S) (slow : T → Outcome T) (most : ℕ) → Follows R fast slow most
-    → (n : ℕ) (told : List Event) (s : S) (t : T) (end : End) → R s t → (run_from fast n (going told s)).end ≡ Some end → IsUnstuck fast (going told s) n
+    → (n : ℕ) (told : List Event) (s : S) (t : T) (end : End) → R s t → (run_from fast n (going told s)).end ≡ Some end
+    → IsUnstuck fast (going told s) n
     → Ends fast slow most (going told s) (going told t) n
 
 -- ---- behind a lead

@@ -20,7 +20,7 @@ use Rattle.jresolution.proofs.JprogramProofs.ClassHeights.{lib_find, not_taken}
 use Rattle.jsemantics.specs.jmachine.HeapObjects.{library_name}
 use Rattle.jsemantics.specs.jmachine.World.{World, fits, is_above, world}
 use Rattle.jsoundness_laws.specs.typed.RuntimeAssignability.{IsValueType}
-use Rattle.jsoundness_laws.proofs.TypedProofs.SubtypeTransitivity.{fits_after}
+use Rattle.jsoundness_laws.proofs.TypedProofs.SubtypeTransitivity.{fits_after, or_right}
 use Rattle.jsoundness_laws.proofs.TypedProofs.Orders.{in_order}
 use Rattle.jsoundness_laws.proofs.LibraryProofs.Classes.{IsLow, closed_above, lib_named, lib_under, names_one, none_above, sort_of, under_sort}
 use Rattle.jsoundness_laws.proofs.LibraryProofs.ReservedNames.{not_found}
@@ -40,10 +40,6 @@ pub record Orders (side : Side) (w : World) : Type 0 where
   pub apart : (l c : LibClass) → IsLow side l → library.stands_on side c ≡ false → class_fits w.tree (library_name c) (library_name l) ≡ true → ⊥
   -- and what fits goes on with what fits.
   pub after : (a b c : VType) → IsValueType a → fits w a b ≡ true → checked.fits w.tree b c ≡ true → fits w a c ≡ true
-
-or_right : (a b : Bool) → b ≡ true → a || b ≡ true
-or_right true b e = refl
-or_right false b e = e
 
 both_false : (a b : Bool) → (a ≡ true → ⊥) → b ≡ false → a || b ≡ false
 both_false true b never e = absurd (never refl)

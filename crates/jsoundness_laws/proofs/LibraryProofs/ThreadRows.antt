@@ -39,7 +39,7 @@ use Rattle.jsoundness_laws.proofs.LibraryProofs.StoreExtension.{changed_at, foll
 use Rattle.jsoundness_laws.proofs.LibraryProofs.LibraryCallRows.{Premises, Rowed, call_yields, found_by, given_ctx, given_ref, it_gives, it_raises, thread_at, thread_begun}
 use Rattle.jsoundness_laws.proofs.LibraryProofs.MemberDescriptors as signed
 
-same_length : {A : Type 0} (xs : List A) (n : ℕ) (x : A) → length (slice_set xs n x) ≡ length xs
+pub same_length : {A : Type 0} (xs : List A) (n : ℕ) (x : A) → length (slice_set xs n x) ≡ length xs
 same_length [] n x = refl
 same_length (y ∷ xs) zero x = refl
 same_length (y ∷ xs) (suc n) x = ap suc (same_length xs n x)

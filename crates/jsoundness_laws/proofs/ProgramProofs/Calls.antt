@@ -60,14 +60,9 @@ use Rattle.jsoundness_laws.proofs.ProgramProofs.Codes.{face_abstract}
 use Rattle.jsoundness_laws.proofs.ProgramProofs.MethodDeclarations.{Faced, IsDeclared, IsLibs, IsResolved, IsUsers, Upward, begun_at, declared_at, declared_is, name_is, resolved_at}
 use Rattle.jsoundness_laws.proofs.ProgramProofs.Entries.{IsCallEntry}
 use Rattle.jsoundness_laws.proofs.ProgramProofs.Libraries.{one_name}
+use Rattle.jlinking.proofs.JlinkProofs.FieldResolution.{differs_not}
 
 -- ---- the tests of its use
-
-differs_not : (a b : Bool) → differs a b ≡ false → b ≡ a
-differs_not true true e = refl
-differs_not true false e = absurd cc
-differs_not false true e = absurd cc
-differs_not false false e = refl
 
 -- it is static where the instruction takes a static one, and called as it may be
 record IsUsed (op : CallOp) (u : MemberUse) (m : MemberFacts) : Type 0 where

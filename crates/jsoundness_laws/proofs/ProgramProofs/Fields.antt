@@ -66,7 +66,7 @@ use Rattle.jlinking.proofs.JlinkProofs.MethodSelection.{first_called}
 use Rattle.jlinking.proofs.JlinkProofs.ResolvedReferences.{third_none}
 use Rattle.jlinking.proofs.JlinkProofs.DescriptorTypes.{no_fault}
 use Rattle.jsoundness_laws.specs.typed.TypedUses.{HoldsAs, IsField}
-use Rattle.jsoundness_laws.proofs.TypedProofs.LibraryNames.{lib_apart}
+use Rattle.jresolution.proofs.JprogramProofs.ReservedNames.{lib_apart}
 use Rattle.jsoundness_laws.proofs.TypedProofs.Dimensions.{IsTypedNamed, typed_named}
 use Rattle.jsoundness_laws.proofs.ProgramProofs.MethodDeclarations.{either}
 use Rattle.jsoundness_laws.proofs.ProgramProofs.Entries.{IsFieldEntry}

@@ -1,5 +1,5 @@
 -- No static of a program that links holds a security context.
-use Rattle.std.proofs.Common.{◌≡◌, ℕ, zero, suc, ◌+◌, ◌^◌, Bool, true, false, ◌&&◌, ◌||◌, not, List, [], ◌∷◌, length, map, take, Option, Some, None, refl, sym, ap, ◌∙◌}
+use Rattle.std.proofs.Common.{◌≡◌, ℕ, ◌+◌, ◌^◌, Bool, true, false, ◌&&◌, ◌||◌, not, List, [], ◌∷◌, length, map, take, Option, Some, None, refl, sym, ap, ◌∙◌}
 use Rattle.std.specs.Prelude.{is_some, option_map, slice_get, nat_lt, ◌==◌, if◌then◌else◌}
 use Rattle.std.specs.List.{AllByRecursion, filter, flat_map}
 use Rattle.std.specs.Option.{IsSome}
@@ -19,7 +19,6 @@ use Rattle.jtypes.specs.declared.vtype.Element.TheVariants as elements
 use Rattle.jtypes.specs.declared.vtype.Name.{Name}
 use Rattle.jtypes.specs.declared.vtype.VType.TheVariants as types
 use Rattle.jtypes.specs.DescriptorElements.{element_of, in_brackets}
-use Rattle.jresolution.specs.declared.jprogram.fault.LinkKind.{LinkKind}
 use Rattle.jresolution.specs.declared.jprogram.fault.LinkKind.TheVariants.{LeftOut, NoClass}
 use Rattle.jresolution.specs.declared.jprogram.part.CodePart.{CodePart}
 use Rattle.jresolution.specs.jprogram.ProgramClasses.{Program, find}
@@ -42,7 +41,8 @@ use Rattle.jlinking.proofs.JlinkProofs.ResolvedReferences.{third_none}
 use Rattle.jlinking.proofs.JlinkProofs.DescriptorTypes.{no_fault}
 use Rattle.jsoundness_laws.specs.typed.TypedUses.{static_types}
 use Rattle.jsoundness_laws.proofs.TypedProofs.Dimensions.{all_append}
-use Rattle.jsoundness_laws.proofs.ProgressProofs.LinkedMethods.{all_of, class_none, second_none}
+use Rattle.jsoundness_laws.proofs.ProgressProofs.LinkedMethods.{all_of, class_none, second_none, at_none}
+use Rattle.jlinking.proofs.JlinkProofs.FieldResolution.{alone_plain}
 
 -- ---- lists
 
@@ -106,16 +106,6 @@ element_clear : (p : Program) (t : FieldType) → is_type t ≡ true → is_floa
 element_clear p t good float clear there =
     element_by p t (is_class_sign t.base) (second_true (nat_lt t.depth (2 ^ 32)) (if is_class_sign t.base then is_class_name t.class else is_base t.base && length t.class == 0) good) float clear there
 
-alone_plain : (depth : ℕ) (x : Element) → is_plain (in_brackets depth x) ≡ true
-alone_plain zero elements.Boolean = refl
-alone_plain zero elements.Char = refl
-alone_plain zero elements.Byte = refl
-alone_plain zero elements.Short = refl
-alone_plain zero elements.Int = refl
-alone_plain zero elements.Long = refl
-alone_plain zero (elements.Class c) = refl
-alone_plain (suc depth) x = refl
-
 type_plain : (depth : ℕ) (x : Element) → says.is_context x ≡ false → is_plain (type_of depth x) ≡ true
 type_plain depth x clear = by (depth == 0) (says.is_context x) clear
   where
@@ -136,10 +126,6 @@ of_field text h =
     let t = has_some (field_of text) h in
     let took = field_take text t.0 t.1 in
     (t.0, took.0, ap descriptor_of took.1 ∙ descriptor_again (field t.0) took.0)
-
-at_none : (i k : ℕ) (o : Option LinkKind) → at_member i k o ≡ None → o ≡ None
-at_none i k None e = refl
-at_none i k (Some kind) e = absurd (cc)
 
 -- a field is tested
 tested : (p : Program) (i : ℕ) (c : ClassParts) (k : ℕ) (m : MemberInfo) → class_fault p i c ≡ None → slice_get c.fields k ≡ Some m → field_test p c (take k c.fields) m ≡ None

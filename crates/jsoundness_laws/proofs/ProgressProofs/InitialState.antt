@@ -59,6 +59,7 @@ use Rattle.jsoundness_laws.specs.progress.TypedStates.{MainHasCode, OpensTyped}
 use Rattle.jsoundness_laws.proofs.ProgressProofs.PushedFrames.{begun_is, frame_stands}
 use Rattle.jsoundness_laws.proofs.ProgressProofs.Constants.{AreMade, parts_are}
 use Rattle.std.specs.Option.{option_to_list}
+use Rattle.jsoundness_laws.proofs.TypedProofs.FrameSubsumption.{both}
 
 some_is : {A : Type 0} (a b : A) → Some a ≡ Some b → a ≡ b
 some_is a b e = cc
@@ -151,10 +152,6 @@ module _ (p : Program) (K : Type 0) (heap : ℕ) where
   array_is good = is_named (world p) (static_types p) begun_store (types.Array arguments_type) (arguments_number p) (Array arguments_type []) array_at refl (array_fits_own good)
 
 -- ---- `main`
-
-both : (a b : Bool) → a && b ≡ true → (a ≡ true) × (b ≡ true)
-both true b e = (refl, e)
-both false b e = absurd (cc)
 
 found_at : (t : MemberInfo → Bool) (ms : List MemberInfo) (j : ℕ) → position t ms ≡ Some j → (m : MemberInfo) × (slice_get ms j ≡ Some m) × (t m ≡ true)
 found_at t [] j e = absurd (cc)

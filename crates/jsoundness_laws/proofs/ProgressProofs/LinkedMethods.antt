@@ -100,7 +100,7 @@ pub class_none : (p : Program) (i : ℕ) (part : CodePart) → Links p → slice
 unfolding members_fault
 class_none p i part links at = none_fails (λ (i : ℕ) (part : CodePart). class_fault p i part.class) p.parts i part (members_none p links.rules) at
 
-at_none : (i k : ℕ) (o : Option LinkKind) → at_member i k o ≡ None → o ≡ None
+pub at_none : (i k : ℕ) (o : Option LinkKind) → at_member i k o ≡ None → o ≡ None
 at_none i k None e = refl
 at_none i k (Some kind) e = absurd (cc)
 

@@ -1,5 +1,5 @@
 -- What the machine raises can be thrown: it extends Throwable.
-use Rattle.std.proofs.Common.{◌≡◌, ℕ, Bool, true, false, ◌||◌, List, ◌∷◌, Option, Some, refl, sym, ap, subst, ◌∙◌}
+use Rattle.std.proofs.Common.{◌≡◌, ℕ, true, ◌||◌, List, ◌∷◌, Option, Some, refl, sym, ap, subst, ◌∙◌}
 use Rattle.std.specs.Prelude.{option_and_then, option_map}
 use Rattle.std.specs.List.{list_any}
 use Rattle.std.specs.Str.{bytes_eq}
@@ -18,14 +18,7 @@ use Rattle.jsemantics.specs.jmachine.HeapObjects.{library_name}
 use Rattle.jsemantics.specs.jmachine.World.{world}
 use Rattle.jsoundness_laws.specs.typed.TypedValues.{CanBeThrown}
 use Rattle.jsoundness_laws.proofs.LibraryProofs.Classes.{thrown_plain}
-
-or_left : (a b : Bool) → a ≡ true → a || b ≡ true
-or_left true b e = refl
-or_left false b e = absurd (cc)
-
-or_right : (a b : Bool) → b ≡ true → a || b ≡ true
-or_right true b e = refl
-or_right false b e = e
+use Rattle.jsoundness_laws.proofs.TypedProofs.SubtypeTransitivity.{or_left, or_right}
 
 module _ (p : Program) (good : StandsInOrder p) where
   -- a class of the library extends the one above it

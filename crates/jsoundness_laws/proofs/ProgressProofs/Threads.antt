@@ -26,6 +26,7 @@ use Rattle.jsoundness_laws.proofs.TypedProofs.States.{stacked_later}
 use Rattle.jsoundness_laws.proofs.TypedProofs.ObjectAllocation.{are_kept}
 use Rattle.jsoundness_laws.specs.library.LibraryResults.{run_given}
 use Rattle.jsoundness_laws.specs.progress.TypedStates.{ComesTo, IsGuest, IsTypedState, MayBegin}
+use Rattle.jsoundness_laws.proofs.LibraryProofs.ThreadRows.{same_length}
 
 -- ---- lists
 
@@ -44,11 +45,6 @@ all_both P (x ∷ xs) ys a b = (a.0, all_both P xs ys a.1 b)
 all_weaken : {A : Type 0} (P Q : A → Type 0) → ((x : A) → P x → Q x) → (xs : List A) → AllByRecursion P xs → AllByRecursion Q xs
 all_weaken P Q h [] all = tt
 all_weaken P Q h (x ∷ xs) all = (h x all.0, all_weaken P Q h xs all.1)
-
-same_length : {A : Type 0} (xs : List A) (n : ℕ) (x : A) → length (slice_set xs n x) ≡ length xs
-same_length [] n x = refl
-same_length (y ∷ xs) zero x = refl
-same_length (y ∷ xs) (suc n) x = ap suc (same_length xs n x)
 
 length_both : {A : Type 0} (xs ys : List A) → length (xs ++ ys) ≡ length xs + length ys
 length_both xs ys = length-append xs ys

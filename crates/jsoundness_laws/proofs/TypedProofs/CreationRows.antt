@@ -1,6 +1,6 @@
 -- Rows of instructions that push constants, cast, make arrays and tell the length of one.
-use Rattle.std.proofs.Common.{◌≡◌, ℕ, zero, suc, ◌+◌, ◌-◌, ℤ, pos, Bool, true, false, List, [], ◌∷◌, ◌++◌, length, replicate, Option, Some, None, option_map, refl, sym, ap, subst, arith, ◌∙◌}
-use Rattle.std.specs.Prelude.{slice_get, if◌then◌else◌}
+use Rattle.std.proofs.Common.{◌≡◌, ℕ, zero, suc, ◌+◌, ◌-◌, ℤ, pos, Bool, true, false, List, [], ◌∷◌, length, replicate, Option, Some, None, option_map, refl, sym, ap, subst, arith, ◌∙◌}
+use Rattle.std.specs.Prelude.{if◌then◌else◌}
 use Rattle.std.specs.Str.{bytes_eq}
 use Rattle.jvalues.specs.declared.jnames.kinds.Kind.TheVariants as kinds
 use Rattle.jclass.specs.FileContents.{IsIn}
@@ -10,8 +10,6 @@ use Rattle.jparts.specs.declared.jcode.names.ArrayType as codes_of
 use Rattle.jparts.specs.declared.jcode.names.CastOp.{CastOp}
 use Rattle.jparts.specs.declared.jcode.names.CastOp.TheVariants as casts
 use Rattle.jparts.specs.declared.jcode.op_form.ArrayForm.TheVariants as forms
-use Rattle.jlib.specs.declared.classes.LibClass.TheVariants as lib
-use Rattle.jlib.specs.declared.classes.Thrown.TheVariants as thrown
 use Rattle.jtypes.specs.declared.vtype.ArrayType.{ArrayType}
 use Rattle.jtypes.specs.declared.vtype.Element.{Element}
 use Rattle.jtypes.specs.declared.vtype.Element.TheVariants as elements
@@ -31,7 +29,7 @@ use Rattle.jsemantics.specs.ProofNames
 use Rattle.jsemantics.specs.jmachine.ArrayInstructions.{array, items_in, made, made_of, make}
 use Rattle.jsemantics.specs.jmachine.ObjectInstructions.{cast, checked, is_one, push, tested, text_loaded, text_made, units_of}
 use Rattle.jsemantics.specs.jmachine.Narrowing.{default, place}
-use Rattle.jsemantics.specs.jmachine.HeapObjects.{Object, Thrown, Text, Array, class_of}
+use Rattle.jsemantics.specs.jmachine.HeapObjects.{Object, Text, class_of}
 use Rattle.jsemantics.specs.jmachine.TakenOperands.{type_of}
 use Rattle.jsemantics.specs.jmachine.Store.{Store, constant_at, next_number, object_at, with_constant, with_made}
 use Rattle.jsemantics.specs.jmachine.World.{World}
@@ -45,11 +43,7 @@ use Rattle.jsoundness_laws.proofs.TypedProofs.StoreMonotonicity.{grows_constant,
 use Rattle.jsoundness_laws.proofs.TypedProofs.TypedValues.{has_of}
 use Rattle.jsoundness_laws.proofs.TypedProofs.ValueKinds.{array_value, int_value, known_type, ref_value}
 use Rattle.jsoundness_laws.proofs.TypedProofs.Simples.{HasRow}
-use Rattle.jsoundness_laws.proofs.TypedProofs.ObjectAllocation.{stored_constant, stored_made}
-
-get_end : {A : Type 0} (xs : List A) (x : A) → slice_get (xs ++ x ∷ []) (length xs) ≡ Some x
-get_end [] x = refl
-get_end (y ∷ xs) x = get_end xs x
+use Rattle.jsoundness_laws.proofs.TypedProofs.ObjectAllocation.{stored_constant, stored_made, get_end}
 
 some_is : {A : Type 0} (a b : A) → Some a ≡ Some b → a ≡ b
 some_is a b e = cc

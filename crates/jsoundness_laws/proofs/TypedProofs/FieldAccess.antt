@@ -37,7 +37,7 @@ use Rattle.jsoundness_laws.specs.typed.StoreGrowth.{Becomes, Grows}
 use Rattle.jsoundness_laws.specs.typed.TypedStores.{IsObject, IsStored}
 use Rattle.jsoundness_laws.specs.typed.TypedUses.{static_types}
 use Rattle.jsoundness_laws.specs.typed.TypedValues.{AreOf, IsA, known}
-use Rattle.jsoundness_laws.proofs.TypedProofs.LibraryNames.{above_is_no_user, lib_no_user}
+use Rattle.jresolution.proofs.JprogramProofs.UserSubclasses.{above_is_no_user, lib_no_user}
 use Rattle.jsoundness_laws.proofs.TypedProofs.ObjectUpdates.{stored_changed}
 use Rattle.jsoundness_laws.proofs.TypedProofs.SubtypeTransitivity.{or_split, runs_above}
 use Rattle.jsoundness_laws.proofs.TypedProofs.StoreMonotonicity.{get_front, grows_changed, serves_kept}

@@ -1,11 +1,10 @@
 -- Rows of instructions with fields, from typed frames.
-use Rattle.std.proofs.Common.{◌≡◌, ℕ, zero, suc, Bool, true, false, ◌&&◌, List, [], ◌∷◌, Option, Some, None, inl, inr, refl, sym, ap, subst, ◌∙◌}
+use Rattle.std.proofs.Common.{◌≡◌, ℕ, zero, suc, Bool, true, false, List, [], ◌∷◌, Option, Some, None, inl, inr, refl, sym, ap, subst, ◌∙◌}
 use Rattle.std.specs.Prelude.{option_map}
 use Rattle.std.specs.Str.{bytes_eq}
 use Rattle.jparts.specs.declared.jcode.names.FieldOp.{FieldOp}
 use Rattle.jparts.specs.declared.jcode.names.FieldOp.TheVariants as fields
 use Rattle.jlib.specs.declared.classes.LibClass.TheVariants as lib
-use Rattle.jvalues.specs.declared.jnames.kinds.Kind.TheVariants as kinds
 use Rattle.jvalues.specs.declared.jops.value.Value.{Value}
 use Rattle.jvalues.specs.declared.jops.value.Value.TheVariants.{Ref}
 use Rattle.jtypes.specs.declared.vtype.Name.{Name}
@@ -20,7 +19,6 @@ use Rattle.jresolution.specs.jprogram.MemberResolution.{is_static, owner_of}
 use Rattle.jresolution.specs.jprogram.OrderedPrograms.{StandsInOrder}
 use Rattle.jresolution.proofs.JprogramProofs.SuperclassOrder.{extends_itself}
 use Rattle.jresolution.proofs.JprogramProofs.NameReachability as settling
-use Rattle.jresolution.specs.jlayout.FieldLayout as layouts
 use Rattle.jlinking.specs.jlink.NamedFields.{is_plain}
 use Rattle.jresolution.specs.juses.IndexedInstructions.{Used}
 use Rattle.jresolution.specs.juses.InstructionMeanings as meanings
@@ -54,10 +52,7 @@ use Rattle.jsoundness_laws.proofs.TypedProofs.Orders.{in_order}
 use Rattle.jsoundness_laws.proofs.TypedProofs.Simples.{HasRow}
 use Rattle.jsoundness_laws.proofs.TypedProofs.TakenOperands.{AreServed, IsServed}
 use Rattle.jsoundness_laws.proofs.TypedProofs.WantedOperands.{IsValueWant, has_want}
-
-both : (a b : Bool) → a && b ≡ true → (a ≡ true) × (b ≡ true)
-both true b e = (refl, e)
-both false b e = absurd (cc)
+use Rattle.jsoundness_laws.proofs.TypedProofs.FrameSubsumption.{both}
 
 module _ {K : Type 0} (E : Type 0) (p : Program) (good : StandsInOrder p) (s : Store K) (stored : IsStored (world p) s (static_types p)) (here : Here) (news : News) (op : FieldOp) (f : FieldMeaning) where
   abbrev IsRow : Option VType → Option (Row K E) → Type 0

@@ -19,7 +19,7 @@ use Rattle.jsoundness_laws.proofs.TypedProofs.SubtypeTransitivity.{InOrder}
 use Rattle.jsoundness_laws.proofs.TypedProofs.Orders.{in_order}
 use Rattle.jsoundness_laws.proofs.TypedProofs.WantedOperands.{has_fit}
 
-both : (a b : Bool) → a && b ≡ true → (a ≡ true) × (b ≡ true)
+pub both : (a b : Bool) → a && b ≡ true → (a ≡ true) × (b ≡ true)
 both true b e = (refl, e)
 both false b e = absurd (cc)
 

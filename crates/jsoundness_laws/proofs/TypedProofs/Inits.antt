@@ -65,7 +65,7 @@ use Rattle.jsoundness_laws.specs.typed.TypedFrames.{AllHave, AllHold, Has, Holds
 use Rattle.jsoundness_laws.specs.typed.StoreGrowth.{Grows}
 use Rattle.jsoundness_laws.specs.typed.ProgressLaws.{HasCode, IsAt}
 use Rattle.jsoundness_laws.specs.typed.TypedValues.{AllServe, AreOf, IsA, is_piece, is_whole, whole_type}
-use Rattle.jsoundness_laws.proofs.TypedProofs.LibraryNames.{lib_apart}
+use Rattle.jresolution.proofs.JprogramProofs.ReservedNames.{lib_apart}
 use Rattle.jsoundness_laws.proofs.TypedProofs.CallTargets.{have_all, have_last, receiver_is, some_member}
 use Rattle.jsoundness_laws.proofs.TypedProofs.Codes.{itself_coded}
 use Rattle.jsoundness_laws.proofs.TypedProofs.OperandExchange.{roomy}

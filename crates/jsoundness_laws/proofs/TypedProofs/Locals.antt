@@ -1,7 +1,6 @@
 -- Instructions with a local in typed frames.
 use Rattle.std.proofs.Common.{◌≡◌, ℕ, zero, suc, ◌+◌, ℤ, ◌+ℤ◌, Bool, true, false, ◌&&◌, List, [], ◌∷◌, length, Option, Some, None, option_map, refl, sym, ap, subst, ◌∙◌}
 use Rattle.std.specs.Prelude.{nat_le, option_and_then, slice_get, slice_set, if◌then◌else◌}
-use Rattle.jvalues.specs.declared.jnames.kinds.Kind.{Kind}
 use Rattle.jvalues.specs.declared.jnames.kinds.Kind.TheVariants as kinds
 use Rattle.jvalues.specs.declared.jops.value.Value.{Value}
 use Rattle.jvalues.specs.declared.jops.value.Value.TheVariants.{Int}
@@ -40,6 +39,7 @@ use Rattle.jsoundness_laws.specs.typed.TypedActions.{CanDo}
 use Rattle.jsoundness_laws.specs.typed.TypedFrames.{AllHave, AllHold, Has, Holds, News}
 use Rattle.jsoundness_laws.proofs.TypedProofs.OperandExchange.{roomy}
 use Rattle.jsoundness_laws.proofs.TypedProofs.ValueKinds.{as_long, has_kind, held_of, int_value, long_of, not_top, number_of}
+use Rattle.jsoundness_laws.proofs.TypedProofs.FrameSubsumption.{both}
 
 some_is : {A : Type 0} (a b : A) → Some a ≡ Some b → a ≡ b
 some_is a b e = cc
@@ -47,10 +47,6 @@ some_is a b e = cc
 pub if_some : {A : Type 0} (b : Bool) (o : Option A) (x : A) → (if b then o else None) ≡ Some x → (b ≡ true) × (o ≡ Some x)
 if_some true o x e = (refl, e)
 if_some false o x e = absurd (cc)
-
-both : (a b : Bool) → a && b ≡ true → (a ≡ true) × (b ≡ true)
-both true b e = (refl, e)
-both false b e = absurd (cc)
 
 and_true : (a b : Bool) → a ≡ true → b ≡ true → a && b ≡ true
 and_true true b x y = y

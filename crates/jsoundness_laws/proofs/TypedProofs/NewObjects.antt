@@ -1,11 +1,11 @@
 -- New objects in typed frames.
-use Rattle.std.proofs.Common.{◌≡◌, ℕ, suc, ◌+◌, Bool, true, false, ◌||◌, ◌==◌, List, [], ◌∷◌, ◌++◌, length, map, Option, Some, None, refl, sym, ap, subst, arith, rules, ◌∙◌}
+use Rattle.std.proofs.Common.{◌≡◌, ℕ, suc, ◌+◌, Bool, true, false, ◌||◌, ◌==◌, List, [], ◌∷◌, length, map, Option, Some, None, refl, sym, ap, subst, arith, rules, ◌∙◌}
 use Rattle.std.specs.List.{AllByRecursion, list_any}
-use Rattle.std.specs.Prelude.{option_map, slice_get, if◌then◌else◌}
+use Rattle.std.specs.Prelude.{option_map, if◌then◌else◌}
 use Rattle.jlib.specs.declared.classes.LibClass.{LibClass}
 use Rattle.jlib.specs.declared.classes.LibClass.TheVariants as lib
 use Rattle.jvalues.specs.declared.jops.value.Value.{Value}
-use Rattle.jvalues.specs.declared.jops.value.Value.TheVariants.{Int, Long, Ref}
+use Rattle.jvalues.specs.declared.jops.value.Value.TheVariants.{Ref}
 use Rattle.jtypes.specs.declared.vtype.Name.{Name}
 use Rattle.jtypes.specs.declared.vtype.VType.{VType}
 use Rattle.jtypes.specs.declared.vtype.VType.TheVariants as types
@@ -44,17 +44,13 @@ use Rattle.jsoundness_laws.specs.typed.TypedUses.{IsLaidOut, IsNew}
 use Rattle.jsoundness_laws.specs.typed.TypedValues.{AreOf, IsA, is_piece}
 use Rattle.jsoundness_laws.proofs.TypedProofs.OperandExchange.{roomy}
 use Rattle.jsoundness_laws.proofs.TypedProofs.StoreMonotonicity.{grows_made}
-use Rattle.jsoundness_laws.proofs.TypedProofs.ObjectAllocation.{stored_made}
+use Rattle.jsoundness_laws.proofs.TypedProofs.ObjectAllocation.{stored_made, get_end}
 use Rattle.jtypes.specs.declared.vtype.VType.TheVariants.{Uninit}
 
 -- ---- names for what definitions say in place
 
 abbrev is_uninit : ℕ → VType → Bool
 is_uninit o = elim [ Uninit at ↦ at == o | _ ↦ false ]
-
-get_end : {A : Type 0} (xs : List A) (x : A) → slice_get (xs ++ x ∷ []) (length xs) ≡ Some x
-get_end [] x = refl
-get_end (y ∷ xs) x = get_end xs x
 
 suc_is : (n : ℕ) → n + 1 ≡ suc n
 suc_is n = omega arith

@@ -64,6 +64,7 @@ use Rattle.jsoundness_laws.proofs.TypedProofs.StoreMonotonicity.{all_kept, have_
 use Rattle.jsoundness_laws.proofs.TypedProofs.TypedValues.{has_of, have_given}
 use Rattle.jsoundness_laws.proofs.TypedProofs.ValueKinds.{whole_class}
 use Rattle.jsoundness_laws.proofs.TypedProofs.SelectedMethods.{desc_is}
+use Rattle.jsoundness_laws.proofs.TypedProofs.FrameSubsumption.{both}
 
 some_is : {A : Type 0} (a b : A) → Some a ≡ Some b → a ≡ b
 some_is a b e = cc
@@ -239,10 +240,6 @@ find_in t (x ∷ hs) h e = go (t x) refl (find_in t hs h) e
     go : (b : Bool) → t x ≡ b → (find t hs ≡ Some h → IsIn h hs × (t h ≡ true)) → (if b then Some x else find t hs) ≡ Some h → IsIn h (x ∷ hs) × (t h ≡ true)
     go true is more e = let same = some_is x h e in ((0, e), ap t (sym same) ∙ is)
     go false is more e = let found = more e in ((suc found.0.0, found.0.1), found.1)
-
-both : (a b : Bool) → a && b ≡ true → (a ≡ true) × (b ≡ true)
-both true b e = (refl, e)
-both false b e = absurd (cc)
 
 -- where an exception is handled: a handler that covers the place and catches its class, and the number of its instruction
 record IsHandled (p : Program) (pool : List Entry) (thrown : VType) (body : CodeBody) (i to : ℕ) : Type 0 where

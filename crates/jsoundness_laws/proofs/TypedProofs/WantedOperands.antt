@@ -1,5 +1,5 @@
 -- What is known of a value serves where the rule takes it.
-use Rattle.std.proofs.Common.{◌≡◌, ℕ, Bool, true, false, ◌||◌, refl, sym, subst}
+use Rattle.std.proofs.Common.{◌≡◌, ℕ, true, sym, subst}
 use Rattle.jvalues.specs.declared.jops.value.Value.{Value}
 use Rattle.jtypes.specs.declared.vtype.Name.{Name}
 use Rattle.jtypes.specs.declared.vtype.VType.{VType}
@@ -14,7 +14,7 @@ use Rattle.jsemantics.specs.jmachine.World.{World, fits}
 use Rattle.jsoundness_laws.specs.typed.TypedValues.{Serves}
 use Rattle.jsoundness_laws.specs.typed.TypedFrames.{News, Has}
 use Rattle.jsoundness_laws.specs.typed.RuntimeAssignability.{IsValueType}
-use Rattle.jsoundness_laws.proofs.TypedProofs.SubtypeTransitivity.{InOrder, fits_after}
+use Rattle.jsoundness_laws.proofs.TypedProofs.SubtypeTransitivity.{InOrder, fits_after, or_left, or_right}
 use Rattle.jsoundness_laws.proofs.TypedProofs.ValueKinds.{IsPlain, has_kind, known_value}
 
 abbrev pub IsValueWant : Here → Want → Type 0
@@ -36,14 +36,6 @@ new_fits : (t : Tree) (o : ℕ) (b : VType) → IsValueType b → checked.fits t
 new_fits t o types.Top h e = h
 new_fits t o (types.Uninit p) h e = h
 new_fits t o _ h e = cc
-
-or_left : (a b : Bool) → a ≡ true → a || b ≡ true
-or_left true b e = refl
-or_left false b e = absurd (cc)
-
-or_right : (a b : Bool) → b ≡ true → a || b ≡ true
-or_right true b e = refl
-or_right false b e = e
 
 module _ {K : Type 0} (w : World) (s : Store K) (order : InOrder w.tree) (here : Here) (news : News) where
   further : (a b : VType) (v : Value K) → Serves w s (Fits a) v → checked.fits w.tree a b ≡ true → Serves w s (Fits b) v

@@ -63,11 +63,13 @@ module _ {K E : Type 0} (side : Side) (at : Site) (s : Store K) (statics : List 
   -- typed; or it calls `run` of an action, which gives it; it raises what can be raised; or it leaves as many threads as there are, or
   -- makes one with a Runnable.
   abbrev pub YieldsOf : InvokeKind → List (Value K) → Option VType → Act K E → Type 0
-  YieldsOf by values ret (Goes t results events) = Follows at.world statics s t × AreOf at.world t (option_to_list ret) results × IsReadied by values t
+  YieldsOf by values ret (Goes t results events) = Follows at.world statics s t × AreOf at.world t (option_to_list ret) results
+      × IsReadied by values t
   YieldsOf by values ret (Calls m arguments entry) = (ret ≡ Some (of_library lib.Object)) × IsAction side at s m arguments × IsReadied by values s
   YieldsOf by values ret (Raises events class message) = CanBeThrown class
   YieldsOf by values ret (Switches table) = (ret ≡ None) × (length table ≡ length at.table) × IsReadied by values s
-  YieldsOf by values ret (Makes t runnable kept) = (ret ≡ None) × Follows at.world statics s t × IsA at.world t (of_library lib.Runnable) (Ref runnable) × IsReadied by values t
+  YieldsOf by values ret (Makes t runnable kept) = (ret ≡ None) × Follows at.world statics s t
+      × IsA at.world t (of_library lib.Runnable) (Ref runnable) × IsReadied by values t
   YieldsOf by values ret act = ⊥
 
   -- There is a row, and it yields this.

@@ -50,11 +50,13 @@ run_call side = record { owner = library_name lib.Runnable; params = []; ret = N
 
 -- Where it is called, or `run` of an action, no member of the library does it: a frame of a user's method is pushed,
 abbrev pub RunIsUsers : Type 0 → (Side → CallMeaning) → Type 0
-RunIsUsers K meaning = (p : Program) (full : Bool) (side : Side) (x : Object K) (call : LibCall) → by_interface (world p) full (meaning side) x ≡ Runs call → ⊥
+RunIsUsers K meaning = (p : Program) (full : Bool) (side : Side) (x : Object K) (call : LibCall)
+    → by_interface (world p) full (meaning side) x ≡ Runs call → ⊥
 
 -- or an exception comes that can be thrown.
 abbrev pub InterfaceRaises : Type 0 → Type 0
-InterfaceRaises K = (w : World) (full : Bool) (c : CallMeaning) (x : Object K) (class : LibClass) → by_interface w full c x ≡ Fails class → CanBeThrown class
+InterfaceRaises K = (w : World) (full : Bool) (c : CallMeaning) (x : Object K) (class : LibClass) → by_interface w full c x ≡ Fails class
+    → CanBeThrown class
 
 -- What the descriptors of both `run` say.
 abbrev pub RunSays : Type 0
@@ -86,5 +88,6 @@ RunsYield K E = (r : Rules K E) (at : Site) (own : Member → Bool) (s : Store K
 abbrev pub InitsYield : Type 0 → Type 0 → Type 0
 InitsYield K E = (r : Rules K E) (at : Site) (own : Member → Bool) (s : Store K) (entries : List E) (inherited : Option K)
     (p : Program) (statics : List VType) (owner : Name) (call : LibCall) (ret : Option VType) (values : List (Value K))
-    → StandsInOrder p → at.world ≡ world p → r.side ≡ p.side → AreSided r → IsStored at.world s statics → way_of call ≡ how.Init → IsBegunBy p s owner call ret values
+    → StandsInOrder p → at.world ≡ world p → r.side ≡ p.side → AreSided r → IsStored at.world s statics → way_of call ≡ how.Init
+    → IsBegunBy p s owner call ret values
     → Yields r.side at s statics how.Init values ret (run r at own s entries inherited call values)

@@ -30,7 +30,8 @@ use Rattle.jsoundness_laws.specs.progress.SoundPrograms.{IsSound}
 module _ {K E : Type 0} (p : Program) (side : Side) (s : Store K) where
   -- A thread has no Runnable, or begins with `run` of one, and what it inherited is what `run` is given.
   abbrev pub MayBegin : GuestOf K E → Type 0
-  MayBegin g = (g.runnable ≡ 0) ⊎ (IsA (world p) s (of_library lib.Runnable) (Ref g.runnable) × AreOf (world p) s (run_given side) (handed side g.inherited))
+  MayBegin g = (g.runnable ≡ 0)
+      ⊎ (IsA (world p) s (of_library lib.Runnable) (Ref g.runnable) × AreOf (world p) s (run_given side) (handed side g.inherited))
 
   -- its newest frame stands at an instruction, and each older one awaits what it called
   abbrev pub IsGuest : GuestOf K E → Type 0
@@ -53,7 +54,8 @@ ComesTo p side NoStep = ⊥
 -- A typed state has a step, which comes to one.
 abbrev pub StatesStep : Type 0 → Type 0 → Type 0
 StatesStep K E =
-    (r : Rules K E) (p : Program) (plan : Plan) (s : State K E) → IsSound p → r.side ≡ p.side → AreSided r → IsTypedState p r.side s → ComesTo p r.side (step r p plan s)
+    (r : Rules K E) (p : Program) (plan : Plan) (s : State K E) → IsSound p → r.side ≡ p.side → AreSided r → IsTypedState p r.side s
+    → ComesTo p r.side (step r p plan s)
 
 -- The `main` of a class has code.
 abbrev pub MainHasCode : Type 0
@@ -61,7 +63,8 @@ MainHasCode = (p : Program) (name : List ℕ) (main : MethodId) → IsSound p �
 
 -- The state in which a run begins is typed.
 abbrev pub OpensTyped : Type 0 → Type 0 → Type 0
-OpensTyped K E = (r : Rules K E) (p : Program) (name : List ℕ) (main : MethodId) (heap : ℕ) → IsSound p → r.side ≡ p.side → AreSided r → main_of p name ≡ Some main
+OpensTyped K E = (r : Rules K E) (p : Program) (name : List ℕ) (main : MethodId) (heap : ℕ) → IsSound p → r.side ≡ p.side → AreSided r
+    → main_of p name ≡ Some main
     → IsTypedState p r.side (opening_state r p main heap)
 
 -- So the state behind each number of steps is typed, and it has a step.
@@ -70,5 +73,6 @@ pub record IsTypedRun {K E : Type 0} (r : Rules K E) (p : Program) (plan : Plan)
   pub steps : ComesTo p r.side (step r p plan x.state)
 
 abbrev pub RunsTyped : Type 0 → Type 0 → Type 0
-RunsTyped K E = (r : Rules K E) (p : Program) (plan : Plan) (name : List ℕ) (k : ℕ) → IsSound p → r.side ≡ p.side → AreSided r → main_of p name ≡ Some plan.main
+RunsTyped K E = (r : Rules K E) (p : Program) (plan : Plan) (name : List ℕ) (k : ℕ) → IsSound p → r.side ≡ p.side → AreSided r
+    → main_of p name ≡ Some plan.main
     → IsTypedRun r p plan (run r p plan k)

@@ -50,7 +50,8 @@ module _ {K : Type 0} (p : Program) (m : Method) (fs : List Frame) (news : News)
   Leads s statics n f act = ⊥
 
 -- where a `new` may have made another object
-pub record LeadsOn {K E : Type 0} (p : Program) (m : Method) (fs : List Frame) (s : Store K) (statics : List VType) (n : ℕ) (found : Option (Doing K E)) : Type 0 where
+pub record LeadsOn {K E : Type 0} (p : Program) (m : Method) (fs : List Frame) (s : Store K) (statics : List VType) (n : ℕ)
+    (found : Option (Doing K E)) : Type 0 where
   pub done : Doing K E
   pub is : found ≡ Some done
   pub news : News

@@ -105,10 +105,13 @@ StackedLater K E = (p : Program) (s t : Store K) (fs : List (FrameOf K E)) → G
 
 -- with what the method that it called returns, a frame goes on
 abbrev pub FramesResume : Type 0 → Type 0 → Type 0
-FramesResume K E = (p : Program) (s : Store K) (entry_of : ℕ → E) (m : MethodId) (f : FrameOf K E) (values : List (Value K)) → StandsInOrder p → Awaits p s (returns_at p m) f
+FramesResume K E = (p : Program) (s : Store K) (entry_of : ℕ → E) (m : MethodId) (f : FrameOf K E) (values : List (Value K)) → StandsInOrder p
+    → Awaits p s (returns_at p m) f
     → AreOf (world p) s (option_to_list (returns_at p m)) values → Stands p s (resumed entry_of p f (f.place + 1) (values ++ f.operands))
 
 -- An exception that is thrown is handled by a frame that goes on with it, or by none.
 abbrev pub FramesUnwind : Type 0 → Type 0 → Type 0
-FramesUnwind K E = (p : Program) (s : Store K) (entry_of : ℕ → E) (n : ℕ) (x : Object K) (fs rest : List (FrameOf K E)) → StandsInOrder p → AreGuarded p s fs
-    → object_at s n ≡ Some x → IsA (world p) s throwable (Ref n) → unwound entry_of p (class_of (world p).named x) n fs ≡ Some rest → AreStacked p s rest
+FramesUnwind K E = (p : Program) (s : Store K) (entry_of : ℕ → E) (n : ℕ) (x : Object K) (fs rest : List (FrameOf K E)) → StandsInOrder p
+    → AreGuarded p s fs
+    → object_at s n ≡ Some x → IsA (world p) s throwable (Ref n) → unwound entry_of p (class_of (world p).named x) n fs ≡ Some rest
+    → AreStacked p s rest

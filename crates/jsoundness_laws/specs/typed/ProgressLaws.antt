@@ -52,7 +52,8 @@ IsStraight p here i = ⊤
 abbrev pub StraightDoes : Type 0 → Type 0 → Type 0
 StraightDoes K E = (r : Rules K E) (at : Site) (own : Member → Bool) (s : Store K) (entries : List E) (inherited : Option K)
     (p : Program) (here : Here) (news : News) (i : Instruction) (shape behind : Frame) (f : FrameOf K E)
-    → StandsInOrder p → IsAt p at own here → IsStored at.world s (static_types p) → IsStraight p here i → Suits at.world s here news shape f → rule p here i shape ≡ Some behind
+    → StandsInOrder p → IsAt p at own here → IsStored at.world s (static_types p) → IsStraight p here i → Suits at.world s here news shape f
+    → rule p here i shape ≡ Some behind
     → CanDo at.world s (static_types p) here i behind (doing r at own s entries inherited i f)
 
 -- ---- frames

@@ -16,7 +16,8 @@ IsValueType t = ⊤
 
 -- What fits, where a machine runs, a type that fits another as programs are checked, fits that one where a machine runs.
 abbrev pub FitsAfter : Type 0
-FitsAfter = (p : Program) (a b c : VType) → StandsInOrder p → IsValueType a → fits (world p) a b ≡ true → checked.fits (tree p) b c ≡ true → fits (world p) a c ≡ true
+FitsAfter = (p : Program) (a b c : VType) → StandsInOrder p → IsValueType a → fits (world p) a b ≡ true → checked.fits (tree p) b c ≡ true
+    → fits (world p) a c ≡ true
 
 -- What a class implements is an interface.
 abbrev pub ImplementsFaces : Type 0

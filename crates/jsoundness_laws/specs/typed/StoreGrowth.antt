@@ -23,7 +23,8 @@ Grows {K} w s t = (n : ℕ) (x : Object K) → object_at s n ≡ Some x → (y :
 
 -- what a frame holds suits it in each store behind
 abbrev pub SuitsLater : Type 0 → Type 0 → Type 0
-SuitsLater K E = (w : World) (s t : Store K) (here : Here) (news : News) (shape : Frame) (f : FrameOf K E) → Grows w s t → Suits w s here news shape f → Suits w t here news shape f
+SuitsLater K E = (w : World) (s t : Store K) (here : Here) (news : News) (shape : Frame) (f : FrameOf K E) → Grows w s t
+    → Suits w s here news shape f → Suits w t here news shape f
 
 abbrev pub GrowsItself : Type 0 → Type 0
 GrowsItself K = (w : World) (s : Store K) → Grows w s s

@@ -21,7 +21,8 @@ module _ {K E : Type 0} (w : World) (s : Store K) (statics : List VType) (here :
   -- An act of an instruction of a method that calls none: if it goes on, it gives these, in a typed store behind; or it jumps where the
   -- instruction leads, returns what the method returns, or throws what can be thrown.
   abbrev pub GivesOf : Instruction → Option VType → Act K E → Type 0
-  GivesOf i gives (Goes t values events) = (goes_on i ≡ true) × Grows w s t × IsStored w t statics × AllHave w t here news (option_to_list gives) values
+  GivesOf i gives (Goes t values events) = (goes_on i ≡ true) × Grows w s t × IsStored w t statics
+      × AllHave w t here news (option_to_list gives) values
   GivesOf i gives (Jumps to) = IsIn to (targets i) × (gives ≡ None)
   GivesOf i gives (Leaves values) = (gives ≡ None) × AreOf w s (option_to_list here.returns) values
   GivesOf i gives (Raises events class message) = CanBeThrown class
@@ -38,7 +39,8 @@ module _ {K E : Type 0} (w : World) (s : Store K) (statics : List VType) (here :
     pub act : GivesOf i gives d.row.act
 
 -- There is something that is done, and it suits the frame behind, where a `new` may have made another object.
-pub record CanDo {K E : Type 0} (w : World) (s : Store K) (statics : List VType) (here : Here) (i : Instruction) (behind : Frame) (found : Option (Doing K E)) : Type 0 where
+pub record CanDo {K E : Type 0} (w : World) (s : Store K) (statics : List VType) (here : Here) (i : Instruction) (behind : Frame)
+    (found : Option (Doing K E)) : Type 0 where
   pub done : Doing K E
   pub is : found ≡ Some done
   pub news : News

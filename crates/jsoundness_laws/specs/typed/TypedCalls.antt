@@ -69,7 +69,8 @@ method p m x = method_of p x.part.class x.info x.body
 
 -- Each method of a program has code, if it isn't abstract.
 abbrev pub AllHaveCode : Program → Type 0
-AllHaveCode p = (m : MethodId) (part : CodePart) (info : MemberInfo) → slice_get p.parts m.class ≡ Some part → slice_get part.class.methods m.method ≡ Some info
+AllHaveCode p = (m : MethodId) (part : CodePart) (info : MemberInfo) → slice_get p.parts m.class ≡ Some part
+    → slice_get part.class.methods m.method ≡ Some info
     → parts.is_abstract info.flags ≡ false → IsSome (code_of info)
 
 -- ---- what linking says of a call
@@ -111,7 +112,8 @@ pub record IsGiven {K : Type 0} (p : Program) (s : Store K) (m : MethodId) (ret 
 -- The values of a call of the library: its arguments, and where it isn't static an object of its class behind them.
 abbrev pub IsReceived : {K : Type 0} → Program → Store K → LibCall → Bool → List (Value K) → List (Value K) → Type 0
 IsReceived p s call true arguments values = values ≡ arguments
-IsReceived p s call false arguments values = (n : ℕ) × (values ≡ arguments ++ Ref (suc n) ∷ []) × IsA (world p) s (of_library (library_calls.owner call)) (Ref (suc n))
+IsReceived p s call false arguments values = (n : ℕ) × (values ≡ arguments ++ Ref (suc n) ∷ [])
+    × IsA (world p) s (of_library (library_calls.owner call)) (Ref (suc n))
 
 -- A call of the library has code, and these values, the newest first, are what it may be given.
 pub record IsRun {K : Type 0} (p : Program) (s : Store K) (call : LibCall) (ret : Option VType) (values : List (Value K)) : Type 0 where
@@ -146,11 +148,13 @@ IsParameter t = is_top t ≡ false
 -- With what a method may be given, its frame begins as typing says.
 abbrev pub FramesBegin : Type 0 → Type 0 → Type 0
 FramesBegin K E = (w : World) (s : Store K) (here : Here) (news : News) (m : Method) (id : MethodId) (entry : E) (arguments : List (Value K))
-    → AllByRecursion IsParameter m.params → AllHave w s here news (reverse m.params) arguments → Suits w s here news (first_frame m) (frame_of id entry arguments m.body)
+    → AllByRecursion IsParameter m.params → AllHave w s here news (reverse m.params) arguments
+    → Suits w s here news (first_frame m) (frame_of id entry arguments m.body)
 
 -- A call is done: its operands are taken, and it comes to a method or raises an exception. What is left suits the frame before it, less the
 -- call's operands, and the frame behind it, but for what is returned.
-pub record CanCall {K E : Type 0} (r : Rules K E) (at : Site) (own : Member → Bool) (s : Store K) (entries : List E) (inherited : Option K) (p : Program)
+pub record CanCall {K E : Type 0} (r : Rules K E) (at : Site) (own : Member → Bool) (s : Store K) (entries : List E) (inherited : Option K)
+    (p : Program)
     (here : Here) (news : News) (by : InvokeKind) (c : CallMeaning) (shape behind : Frame) (f : FrameOf K E) : Type 0 where
   pub values : List (Value K)
   pub under : List (Value K)
@@ -185,7 +189,8 @@ pub record IsInit (p : Program) (c : CallMeaning) : Type 0 where
   pub library : (x : LibCall) → c.member ≡ LibMethod x → library.name_of (library_calls.owner x) ≡ c.owner.0
 
 -- The values of an `<init>` of the library: its arguments, and an object of its class, or one below, that may hold nothing yet.
-pub record IsBegunBy {K : Type 0} (p : Program) (s : Store K) (owner : Name) (call : LibCall) (ret : Option VType) (values : List (Value K)) : Type 0 where
+pub record IsBegunBy {K : Type 0} (p : Program) (s : Store K) (owner : Name) (call : LibCall) (ret : Option VType)
+    (values : List (Value K)) : Type 0 where
   pub code : HasCode call
   pub own : library.name_of (library_calls.owner call) ≡ owner.0
   pub static : library_calls.is_static call ≡ false
@@ -212,7 +217,8 @@ IsUsable {K} t n = (x : Object K) × (object_at t n ≡ Some x) × (is_whole x �
 
 -- A call of an `<init>` is done. What is left suits the frame before it, less the call's operands. It suits the frame behind, but for what is
 -- returned, in each store behind in which the object that it was called on may be used; a user's may be already.
-pub record CanInit {K E : Type 0} (r : Rules K E) (at : Site) (own : Member → Bool) (s : Store K) (entries : List E) (inherited : Option K) (p : Program)
+pub record CanInit {K E : Type 0} (r : Rules K E) (at : Site) (own : Member → Bool) (s : Store K) (entries : List E) (inherited : Option K)
+    (p : Program)
     (here : Here) (news : News) (c : CallMeaning) (shape behind : Frame) (f : FrameOf K E) : Type 0 where
   pub values : List (Value K)
   pub under : List (Value K)

@@ -44,4 +44,5 @@ module _ {K : Type 0} (w : World) (s : Store K) where
 
 -- with one more object, which holds what its class says
 abbrev pub StoredMade : Type 0 → Type 0
-StoredMade K = (w : World) (s : Store K) (x : Object K) (statics : List VType) → IsStored w s statics → IsObject w (with_made s x) x → IsStored w (with_made s x) statics
+StoredMade K = (w : World) (s : Store K) (x : Object K) (statics : List VType) → IsStored w s statics → IsObject w (with_made s x) x
+    → IsStored w (with_made s x) statics

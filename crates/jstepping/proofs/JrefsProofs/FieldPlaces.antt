@@ -38,7 +38,7 @@ use Rattle.jrows.specs.jobjs.NewObjects.{HasShape, cell_of}
 use Rattle.jserving.specs.jcells.UserClassCells.{field_cell}
 use Rattle.jstepping.specs.declared.jrefs.lasting.Lasting.{Lasting}
 use Rattle.jstepping.specs.jrefs.ReferenceRows.{IsLasting}
-use Rattle.jstepping.proofs.JrefsProofs.UserSubclasses.{IsNoUser, above_is_no_user, find_unnamed, lib_no_user}
+use Rattle.jresolution.proofs.JprogramProofs.UserSubclasses.{IsNoUser, above_is_no_user, find_unnamed, lib_no_user}
 
 -- ---- a user's field
 

@@ -41,8 +41,8 @@ use Rattle.jruntime.proofs.JstateProofs.ArrayTypeNumbers.{typed_there}
 use Rattle.jrows.specs.jobjs.NewObjects.{HasShape}
 use Rattle.jstepping.specs.declared.jrefs.lasting.Lasting.{Lasting}
 use Rattle.jstepping.specs.jrefs.ReferenceRows.{IsLasting}
-use Rattle.jstepping.proofs.JrefsProofs.UserSubclasses.{find_unnamed}
-use Rattle.jstepping.proofs.JrefsProofs.LibraryNames.{lib_apart, named_own}
+use Rattle.jresolution.proofs.JprogramProofs.UserSubclasses.{find_unnamed}
+use Rattle.jresolution.proofs.JprogramProofs.ReservedNames.{lib_apart, named_own}
 use Rattle.jstepping.proofs.JrefsProofs.FieldPlaces.{good, names, user_name, user_unnamed}
 
 -- ---- a class of which an object is made is there

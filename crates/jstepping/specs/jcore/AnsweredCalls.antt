@@ -46,8 +46,10 @@ abbrev pub AnswerSo : {M : Type 0} → Machine M → Option (Ask ℕ) → Answer
 AnswerSo m asked given r = (ask : Ask ℕ) → asked ≡ Some ask → answer_in r (state_of m) ask ≡ given
 
 -- A step was answered what it asks, by what numbers and marks stood for before and behind it, and came to this by all rules that answer so.
-pub record Answered {M K E : Type 0} (old new : ℕ → Option K) (old_marks new_marks : M → Option E) (rules : Rules K E) (m : Machine M) (asked : Option (Ask ℕ))
+pub record Answered {M K E : Type 0} (old new : ℕ → Option K) (old_marks new_marks : M → Option E) (rules : Rules K E) (m : Machine M)
+    (asked : Option (Ask ℕ))
     (outcome : Rules ℕ M → Outcome (State ℕ M)) (came : Came) (n : Machine M) : Type 0 where
   pub given : Answer ℕ M
-  pub answers : (ask : Ask ℕ) → asked ≡ Some ask → AnswersFor old new old_marks new_marks rules ask (carried (state_of m)) m.guests.running.inherited given
+  pub answers : (ask : Ask ℕ) → asked ≡ Some ask → AnswersFor old new old_marks new_marks rules ask
+      (carried (state_of m)) m.guests.running.inherited given
   pub comes : Comes m (AnswerSo m asked given) outcome came n

@@ -28,7 +28,8 @@ outcome_by over n (done.Ended events end) = Over over events end
 outcome_by over n done.Stuck = NoStep
 
 -- A step came to this by all rules that are like these.
-pub record Comes {E : Type 0} (m : Machine E) (like : Rules ℕ E → Type 0) (outcome : Rules ℕ E → Outcome (State ℕ E)) (came : Came) (n : Machine E) : Type 0 where
+pub record Comes {E : Type 0} (m : Machine E) (like : Rules ℕ E → Type 0) (outcome : Rules ℕ E → Outcome (State ℕ E)) (came : Came)
+    (n : Machine E) : Type 0 where
   pub over : State ℕ E
   pub comes : (r : Rules ℕ E) → AreRules m r → like r → outcome r ≡ outcome_by over n came
 

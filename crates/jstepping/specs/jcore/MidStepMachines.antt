@@ -39,8 +39,10 @@ pub record RunsStanding {E : Type 0} (m : Machine E) : Type 0 where
 
 -- What holds of a machine holds of it then, if it holds of its heap and of what it keeps.
 abbrev pub LeftIsMachine : Type 0 → Type 0
-LeftIsMachine E = (m : Machine E) (frames : Option (Framed E)) (heap : Heaped) (things : Things) → IsMachine m → AreBuilt heap.objects → AreCelled m.fixed.shapes.now heap.objects
-    → AreHeld m.calls m.fixed.shapes.now things.permissions heap.objects → AreKept m.calls m.fixed.shapes.now things heap.objects → IsMachine (left_as frames heap things m)
+LeftIsMachine E = (m : Machine E) (frames : Option (Framed E)) (heap : Heaped) (things : Things) → IsMachine m → AreBuilt heap.objects
+    → AreCelled m.fixed.shapes.now heap.objects
+    → AreHeld m.calls m.fixed.shapes.now things.permissions heap.objects → AreKept m.calls m.fixed.shapes.now things heap.objects
+    → IsMachine (left_as frames heap things m)
 
 -- So does what holds of it with an exception of a class more, or with none.
 abbrev pub RaisedIsMachine : Type 0 → Type 0
@@ -49,7 +51,8 @@ RaisedIsMachine E = (m : Machine E) (frames : Option (Framed E)) (heap : Heaped)
 
 -- It stands for the same state, but for those frames and its store.
 abbrev pub LeftIsBehind : Type 0 → Type 0
-LeftIsBehind E = (m : Machine E) (s : State ℕ E) (frames : Option (Framed E)) (heap : Heaped) (things : Things) → IsBehind m s → IsBehind (left_as frames heap things m) s
+LeftIsBehind E = (m : Machine E) (s : State ℕ E) (frames : Option (Framed E)) (heap : Heaped) (things : Things) → IsBehind m s
+    → IsBehind (left_as frames heap things m) s
 
 -- Its program and its plan stay as long as each step leaves them.
 abbrev pub StaysOn : Type 0 → Type 0

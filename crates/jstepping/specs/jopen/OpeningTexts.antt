@@ -41,7 +41,8 @@ seen_by p shapes things c h = store_by p shapes things c.constants h
 -- The string that a static holds at first was made so: nothing is made where it holds none.
 abbrev pub MakesFor : Program → Option (List ℕ) → Bool → Made → Heaped → Made → Heaped → Type 0
 MakesFor p None went c h d k = (went ≡ true) × (d ≡ c) × (k ≡ h)
-MakesFor p (Some units) went c h d k = (shapes : Shapes) (things : Things) → MakesText units went (seen_by p shapes things c h) (seen_by p shapes things d k)
+MakesFor p (Some units) went c h d k = (shapes : Shapes) (things : Things)
+    → MakesText units went (seen_by p shapes things c h) (seen_by p shapes things d k)
 
 -- ---- all strings
 

@@ -33,13 +33,15 @@ pub record AreSeen (x : Lasting) (counts : Counts) (objects : List heaps.Object)
 -- The operands of an instruction of a method serve, or they don't.
 abbrev pub ServesAs : Lasting → Counts → MethodId → Meaning → Heaped → List (Value ℕ) → Bool → Type 0
 ServesAs x counts m meaning h operands serve =
-    (others : Things) (constants : List (List ℕ × ℕ)) (at : Site) (own : Member → Bool) → AreSeen x counts h.objects others → IsSite x.ancestors.now m at own
+    (others : Things) (constants : List (List ℕ × ℕ)) (at : Site) (own : Member → Bool) → AreSeen x counts h.objects others
+    → IsSite x.ancestors.now m at own
     → Serve at own (store_by x.ancestors.now x.shapes.now others constants h) meaning operands serve
 
 -- The same of a write of a field, where this says whether it is one of those that an `<init>` writes before another is called on `this`.
 abbrev pub ServesOwn : Lasting → Counts → MethodId → Bool → FieldMeaning → Heaped → List (Value ℕ) → Bool → Type 0
 ServesOwn x counts m own f h operands serve =
-    (others : Things) (constants : List (List ℕ × ℕ)) (at : Site) (own_of : Member → Bool) → AreSeen x counts h.objects others → at.world ≡ world x.ancestors.now
+    (others : Things) (constants : List (List ℕ × ℕ)) (at : Site) (own_of : Member → Bool) → AreSeen x counts h.objects others
+    → at.world ≡ world x.ancestors.now
     → at.class ≡ m.class → own_of f.member ≡ own
     → Serve at own_of (store_by x.ancestors.now x.shapes.now others constants h) (meanings.Field ops.PutField f) operands serve
 

@@ -38,5 +38,6 @@ abbrev pub TakesCall : {E : Type 0} → RunTables E → Counts → Heaped → Fr
 TakesCall x counts h f by owner params count =
     (things : Things) (constants : List (List ℕ × ℕ)) (c : CallMeaning)
     → AreCounted counts things → IsCall x.ancestors.now owner (spanned x.ready.now.uses.types params) c
-    → call_taken (world x.ancestors.now) (store_by x.ancestors.now x.shapes.now things constants h) ((world x.ancestors.now).named f.newest.method.class) by c
+    → call_taken (world x.ancestors.now) (store_by x.ancestors.now x.shapes.now things constants h)
+    ((world x.ancestors.now).named f.newest.method.class) by c
     f.newest.operands ≡ option_map (λ n. took n f.newest.operands) count

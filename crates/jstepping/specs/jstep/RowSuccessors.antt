@@ -25,5 +25,6 @@ module _ {E : Type 0} (r : Rules ℕ E) (p : Program) (plan : Plan) (s : State �
 
 -- Where a row did what is to be done at the newest frame, the step is what is made of what the row left.
 abbrev pub Follows : Type 0 → Type 0
-Follows E = (r : Rules ℕ E) (p : Program) (plan : Plan) (s : State ℕ E) (f : FrameOf ℕ E) (below : List (FrameOf ℕ E)) (o : Option (Doing ℕ E)) (l : Left E)
+Follows E = (r : Rules ℕ E) (p : Program) (plan : Plan) (s : State ℕ E) (f : FrameOf ℕ E) (below : List (FrameOf ℕ E)) (o : Option (Doing ℕ E))
+    (l : Left E)
     → Comes f s.store o l → done r p plan s below o ≡ behind r p plan s below l.way l

@@ -126,7 +126,8 @@ ReachesAs r p plan s f (steps.Asks call count) it = CallsLibrary r p plan s f ca
 ReachesAs r p plan s f done it = ⊤
 
 -- A step at the frames `f` whose outcome, whose ask and whose instruction these are came to this, and has left the frames `g` and a store.
-pub record CameTo {E : Type 0} (r : Rules ℕ E) (p : Program) (plan : Plan) (s : State ℕ E) (f : Framed E) (done : Stepped) (g : Framed E) (t : Store ℕ)
+pub record CameTo {E : Type 0} (r : Rules ℕ E) (p : Program) (plan : Plan) (s : State ℕ E) (f : Framed E) (done : Stepped) (g : Framed E)
+    (t : Store ℕ)
     (o : Outcome (State ℕ E)) (a : Option (Ask ℕ)) (it : Option Instruction) : Type 0 where
   pub outcome : SteppedAs r p plan s done g t o
   pub asked : AsksAs r p plan s f done a
@@ -209,7 +210,8 @@ RunsAs (steps.Asks call n) count reached = (n ≡ count) × (reached ≡ Some (R
 RunsAs done count reached = ⊤
 
 -- So a step came to what a call of so many operands at the frames `f` came to.
-pub record CallCameTo {E : Type 0} (r : Rules ℕ E) (p : Program) (plan : Plan) (s : State ℕ E) (f : Framed E) (count : ℕ) (done : Stepped) (g : Framed E)
+pub record CallCameTo {E : Type 0} (r : Rules ℕ E) (p : Program) (plan : Plan) (s : State ℕ E) (f : Framed E) (count : ℕ) (done : Stepped)
+    (g : Framed E)
     (t : Store ℕ) (came : Came E) : Type 0 where
   pub outcome : SteppedAs r p plan s done g t came.outcome
   pub asked : AsksAs r p plan s f done came.asked
@@ -242,7 +244,8 @@ Executes {E} p x counts it f h done g k =
     (executed r p plan s f.newest f.below it) (asked_by r.side p plan s f.newest f.below it) it
 
 -- It executed the call that the entry at an index of the pool of the newest frame's class means.
-abbrev pub ExecutesCall : {E : Type 0} → Program → RunTables E → Counts → InvokeKind → (pool : ℕ) → Span → Framed E → Heaped → Stepped → Framed E → Heaped → Type 0
+abbrev pub ExecutesCall : {E : Type 0} → Program → RunTables E → Counts → InvokeKind → (pool : ℕ) → Span → Framed E → Heaped → Stepped → Framed E
+    → Heaped → Type 0
 ExecutesCall p x counts by pool params f h done g k =
     (c : CallMeaning) → meanings.meant p (pool_at p f.newest.method.class) (call_form by pool) ≡ Some (meanings.Call by c)
     → c.params ≡ map (named p) (spanned x.ready.now.uses.types params) → Executes p x counts (Some (Used (meanings.Call by c))) f h done g k

@@ -36,7 +36,8 @@ AreShaped p shapes = (i : ℕ) → i < length p.parts → HasShape (world p) sha
 -- Where the operands of a call serve that comes to such a constructor, its object may be told a message.
 abbrev pub TellsWhatMay : Type 0
 TellsWhatMay = (p : Program) (shapes : Shapes) (things : Things) (constants : List (List ℕ × ℕ)) (h : Heaped)
-    (m : MethodId) (i : ℕ) (by : InvokeKind) (c : CallMeaning) (at : Site) (this : Name) (operands : List (Value ℕ)) (t : Taken ℕ) (call : LibCall) (v : Value ℕ)
+    (m : MethodId) (i : ℕ) (by : InvokeKind) (c : CallMeaning) (at : Site) (this : Name) (operands : List (Value ℕ)) (t : Taken ℕ) (call : LibCall)
+    (v : Value ℕ)
     → Links p → AreFiles p → AreShaped p shapes → instruction_at p m i ≡ Some (Used (meanings.Call by c)) → at.world ≡ world p
     → call_taken at.world (store_by p shapes things constants h) this by c operands ≡ Some t
     → target at (store_by p shapes things constants h) by c t.values ≡ Some (Runs call) → IsTelling call → receiver t.values ≡ Some v

@@ -73,7 +73,7 @@ pub fn tell_uncaught<M: Copy>(
 
 /// Goes on behind an object of a class that was raised or thrown in the running thread: it is told, behind these events, and where none of its frames
 /// handles it the thread ends.
-#[tactic(auto, using(crate::proofs::JcoreProofs::ReadyMachines::handled_ready, crate::proofs::JcoreProofs::StepOutcomes::raised_full, crate::proofs::JcoreProofs::StepOutcomes::raised_handled, crate::proofs::JcoreProofs::StepOutcomes::raised_uncaught))]
+#[tactic(auto, using(crate::proofs::JcoreProofs::ReadyMachines::handled_ready, crate::proofs::JcoreProofs::StepOutcomes::raised_full, crate::proofs::JcoreProofs::StepOutcomes::raised_handled, crate::proofs::JcoreProofs::StepOutcomes::raised_uncaught,),)]
 pub fn settle_raised<M: Copy>(
     alloc: Global,
     m: &mut Machine<'_, '_, M>,
@@ -114,7 +114,7 @@ pub fn full(alloc: Global) -> Came
 }
 
 /// Goes on behind a step of the running thread, which needn't ask the library.
-#[tactic(auto, using(crate::proofs::JcoreProofs::ReadyMachines::went_ready, crate::proofs::JcoreProofs::ReadyMachines::left_handled, crate::proofs::JcoreProofs::StepOutcomes::settlings))]
+#[tactic(auto, using(crate::proofs::JcoreProofs::ReadyMachines::went_ready, crate::proofs::JcoreProofs::ReadyMachines::left_handled, crate::proofs::JcoreProofs::StepOutcomes::settlings,),)]
 pub fn settle<M: Copy>(
     alloc: Global,
     m: &mut Machine<'_, '_, M>,

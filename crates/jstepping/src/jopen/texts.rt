@@ -19,7 +19,8 @@ fn make_for(
     row: StaticRow,
 ) -> Result<bool, AllocError>
     requires { AreBuilt heap.old.objects }
-    ensures makes { IfOk result (λ went. MakesFor constants.old.program (row_text constants.old.program row) went constants.old heap.old constants.new heap.new) }
+    ensures makes { IfOk result
+        (λ went. MakesFor constants.old.program (row_text constants.old.program row) went constants.old heap.old constants.new heap.new) }
     ensures program { OnOk result (constants.new.program ≡ constants.old.program) }
     ensures statics { OnOk result (heap.new.statics ≡ heap.old.statics) }
     ensures built { OnOk result (AreBuilt heap.new.objects) }
@@ -44,7 +45,8 @@ pub(crate) fn make_all(
 ) -> Result<bool, AllocError>
     requires built { AreBuilt heap.old.objects }
     requires none { HasMade constants.old.program cells [] constants.old heap.old }
-    ensures made { IfOk result (λ went. MatchBool went (HasMade constants.old.program cells (texts_of constants.old.program rows.now) constants.new heap.new)
+    ensures made { IfOk result
+        (λ went. MatchBool went (HasMade constants.old.program cells (texts_of constants.old.program rows.now) constants.new heap.new)
         (cells < texts_charge (texts_of constants.old.program rows.now))) }
     ensures built { OnOk result (AreBuilt heap.new.objects) }
     ensures celled { OnOk result (StayCelled heap.old.objects heap.new.objects) }

@@ -24,7 +24,8 @@ pub(crate) fn branch<M: Copy>(
     to: u32,
 ) -> Way
     requires place { frames.old.newest.place + 1 < 2 ^ 32 }
-    ensures row { SeenActs x.now counts (instructions.Jump (instructions.IfRef test) to) frames.old.newest heap.now result frames.new.newest heap.now }
+    ensures row { SeenActs x.now counts
+        (instructions.Jump (instructions.IfRef test) to) frames.old.newest heap.now result frames.new.newest heap.now }
     ensures stays { Stays result frames.old.newest frames.new.newest }
     ensures below { frames.new.below ≡ frames.old.below }
     ensures rests { Rests result frames.old frames.new }

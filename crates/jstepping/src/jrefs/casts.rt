@@ -33,7 +33,8 @@ pub(crate) fn cast<M: Copy>(
     t: TypeRef,
 ) -> Way
     requires place { frames.old.newest.place + 1 < 2 ^ 32 }
-    ensures row { SeenActs x.now counts (instructions.Used (meanings.Cast op (named x.now.ancestors.now t))) frames.old.newest heap.now result frames.new.newest heap.now }
+    ensures row { SeenActs x.now counts
+        (instructions.Used (meanings.Cast op (named x.now.ancestors.now t))) frames.old.newest heap.now result frames.new.newest heap.now }
     ensures stays { Stays result frames.old.newest frames.new.newest }
     ensures below { frames.new.below ≡ frames.old.below }
     ensures rests { Rests result frames.old frames.new }
@@ -57,9 +58,11 @@ pub(crate) fn cast_named<M: Copy>(
 ) -> Way
     requires place { frames.old.newest.place + 1 < 2 ^ 32 }
     requires lasting { IsLasting x.now }
-    ensures row { (t : VType) → meanings.meant x.now.ancestors.now (pool_at x.now.ancestors.now frames.old.newest.method.class) (forms.Cast op pool) ≡ Some (meanings.Cast op t)
+    ensures row { (t : VType) → meanings.meant x.now.ancestors.now (pool_at x.now.ancestors.now frames.old.newest.method.class) (forms.Cast op pool)
+        ≡ Some (meanings.Cast op t)
         → SeenActs x.now counts (instructions.Used (meanings.Cast op t)) frames.old.newest heap.now result frames.new.newest heap.now }
-    ensures missing { meanings.meant x.now.ancestors.now (pool_at x.now.ancestors.now frames.old.newest.method.class) (forms.Cast op pool) ≡ None → result ≡ ways.Stuck }
+    ensures missing { meanings.meant x.now.ancestors.now (pool_at x.now.ancestors.now frames.old.newest.method.class) (forms.Cast op pool) ≡ None
+        → result ≡ ways.Stuck }
     ensures stays { Stays result frames.old.newest frames.new.newest }
     ensures below { frames.new.below ≡ frames.old.below }
     ensures rests { Rests result frames.old frames.new }

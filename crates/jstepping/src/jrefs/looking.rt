@@ -37,7 +37,8 @@ pub(crate) struct FieldAt {
 }
 
 fn field_in(found: Option<Use>) -> Option<FieldUse>
-    ensures { (p : Program) (pool : List Entry) (types : List Ref) → option_map (field_named p) result ≡ only_field (option_map (meaning_of p pool types) found) }
+    ensures { (p : Program) (pool : List Entry) (types : List Ref)
+        → option_map (field_named p) result ≡ only_field (option_map (meaning_of p pool types) found) }
 {
     match found {
         Some(Use::Field(_, used)) => Some(used),
@@ -46,7 +47,8 @@ fn field_in(found: Option<Use>) -> Option<FieldUse>
 }
 
 fn cast_in(found: Option<Use>) -> Option<TypeRef>
-    ensures { (p : Program) (pool : List Entry) (types : List Ref) → option_map (named p) result ≡ only_cast (option_map (meaning_of p pool types) found) }
+    ensures { (p : Program) (pool : List Entry) (types : List Ref)
+        → option_map (named p) result ≡ only_cast (option_map (meaning_of p pool types) found) }
 {
     match found {
         Some(Use::Cast(_, t)) => Some(t),
@@ -66,7 +68,8 @@ fn uses_of<'f>(x: &Lasting<'f, '_>) -> &'f Uses
 /// The field that an instruction of a class names.
 fn field_used(x: &Lasting<'_, '_>, class: u32, op: FieldOp, pool: u16) -> Option<FieldUse>
     requires { IsLasting x.now }
-    ensures { option_map (field_named x.now.ancestors.now) result ≡ only_field (meant x.now.ancestors.now (pool_at x.now.ancestors.now class) (forms.Field op pool)) }
+    ensures { option_map (field_named x.now.ancestors.now) result
+        ≡ only_field (meant x.now.ancestors.now (pool_at x.now.ancestors.now class) (forms.Field op pool)) }
 {
     let found = uses_of(x).use_at(class, PoolForm::Field(op, pool));
     field_in(found)
@@ -75,7 +78,8 @@ fn field_used(x: &Lasting<'_, '_>, class: u32, op: FieldOp, pool: u16) -> Option
 /// The type for which an instruction of a class tests.
 pub(crate) fn cast_used(x: &Lasting<'_, '_>, class: u32, op: CastOp, pool: u16) -> Option<TypeRef>
     requires { IsLasting x.now }
-    ensures { option_map (named x.now.ancestors.now) result ≡ only_cast (meant x.now.ancestors.now (pool_at x.now.ancestors.now class) (forms.Cast op pool)) }
+    ensures { option_map (named x.now.ancestors.now) result ≡ only_cast
+        (meant x.now.ancestors.now (pool_at x.now.ancestors.now class) (forms.Cast op pool)) }
 {
     let found = uses_of(x).use_at(class, PoolForm::Cast(op, pool));
     cast_in(found)
@@ -92,7 +96,7 @@ fn is_place(x: &Lasting<'_, '_>, class: u32) -> bool
 
 /// The class by which a field is named that an instruction of a class names.
 #[inline]
-#[tactic(auto, using(crate::proofs::JrefsProofs::EntryLookup::owner_place, crate::proofs::JrefsProofs::EntryLookup::owner_used, crate::proofs::JrefsProofs::EntryLookup::never_none))]
+#[tactic(auto, using(crate::proofs::JrefsProofs::EntryLookup::owner_place, crate::proofs::JrefsProofs::EntryLookup::owner_used, crate::proofs::JrefsProofs::EntryLookup::never_none,),)]
 pub(crate) fn owner_of(x: &Lasting<'_, '_>, class: u32, a: FieldAt) -> Option<ClassRef>
     requires { IsLasting x.now }
     ensures { (f : FieldMeaning) → NamesField x.now.ancestors.now class a f → option_map (class_named x.now.ancestors.now) result ≡ Some f.owner }

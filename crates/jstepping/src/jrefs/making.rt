@@ -39,7 +39,8 @@ pub(crate) fn make_user<M: Copy>(
         ≡ Some (meanings.Make (class_named x.now.ancestors.now (refs.User class))) }
     requires built { AreBuilt heap.old.objects }
     requires celled { AreCelled x.now.shapes.now heap.old.objects }
-    ensures row { IfOk result (λ way. (counts : CountsOf) → SeenActs x.now counts (instructions.Used (meanings.Make (class_named x.now.ancestors.now (refs.User class))))
+    ensures row { IfOk result
+        (λ way. (counts : CountsOf) → SeenActs x.now counts (instructions.Used (meanings.Make (class_named x.now.ancestors.now (refs.User class))))
         frames.old.newest heap.old way frames.new.newest heap.new) }
     ensures stays { IfOk result (λ way. Stays way frames.old.newest frames.new.newest) }
     ensures below { OnOk result (frames.new.below ≡ frames.old.below) }
@@ -67,7 +68,8 @@ pub(crate) fn make_library<M: Copy>(
         ≡ Some (meanings.Make (class_named x.now.ancestors.now (refs.Lib class))) }
     requires built { AreBuilt heap.old.objects }
     requires celled { AreCelled x.now.shapes.now heap.old.objects }
-    ensures row { IfOk result (λ way. (counts : CountsOf) → SeenActs x.now counts (instructions.Used (meanings.Make (class_named x.now.ancestors.now (refs.Lib class))))
+    ensures row { IfOk result
+        (λ way. (counts : CountsOf) → SeenActs x.now counts (instructions.Used (meanings.Make (class_named x.now.ancestors.now (refs.Lib class))))
         frames.old.newest heap.old way frames.new.newest heap.new) }
     ensures stays { IfOk result (λ way. Stays way frames.old.newest frames.new.newest) }
     ensures below { OnOk result (frames.new.below ≡ frames.old.below) }

@@ -127,7 +127,8 @@ pub(crate) fn serves_cast<M: Copy>(
     x: &Lasting<'_, '_>,
     counts: Counts,
 ) -> bool
-    ensures { (op : CastOp) (t : VType) → ServesAs x.now counts frames.now.newest.method (meanings.Cast op t) heap.now frames.now.newest.operands result }
+    ensures { (op : CastOp) (t : VType) → ServesAs x.now counts frames.now.newest.method
+        (meanings.Cast op t) heap.now frames.now.newest.operands result }
 {
     let objects = Objects {
         shapes: x.shapes,
@@ -167,7 +168,8 @@ pub(crate) fn serves_test<M: Copy>(
     counts: Counts,
     test: RefTest,
 ) -> bool
-    ensures { (others : Things) (constants : List (List ℕ × ℕ)) (at : Site) → AreSeen x.now counts heap.now.objects others → at.world ≡ world x.now.ancestors.now
+    ensures { (others : Things) (constants : List (List ℕ × ℕ)) (at : Site) → AreSeen x.now counts heap.now.objects others
+        → at.world ≡ world x.now.ancestors.now
         → ServeTest at (store_by x.now.ancestors.now x.now.shapes.now others constants heap.now) test frames.now.newest.operands result }
 {
     let objects = Objects {
@@ -186,7 +188,8 @@ pub(crate) fn serves_store<M: Copy>(
     x: &Lasting<'_, '_>,
     counts: Counts,
 ) -> bool
-    ensures { (others : Things) (constants : List (List ℕ × ℕ)) (at : Site) → AreSeen x.now counts heap.now.objects others → at.world ≡ world x.now.ancestors.now
+    ensures { (others : Things) (constants : List (List ℕ × ℕ)) (at : Site) → AreSeen x.now counts heap.now.objects others
+        → at.world ≡ world x.now.ancestors.now
         → ServeStore at (store_by x.now.ancestors.now x.now.shapes.now others constants heap.now) frames.now.newest.operands result }
 {
     let objects = Objects {

@@ -83,7 +83,8 @@ pub fn push<M: Copy>(frames: &mut Frames<M>, tables: &Tables, f: Push) -> Result
     requires place { frames.old.newest.place + 1 < 2 ^ 32 }
     requires number { IsNumberPush f }
     requires within { PushWithin tables.now f }
-    ensures row { IfOk result (λ way. (p : Program) (pool : List Entry) → DoesAs (push_meant p pool tables.now f) frames.old.newest way frames.new.newest) }
+    ensures row { IfOk result
+        (λ way. (p : Program) (pool : List Entry) → DoesAs (push_meant p pool tables.now f) frames.old.newest way frames.new.newest) }
     ensures below { OnOk result (frames.new.below ≡ frames.old.below) }
     ensures rests { IfOk result (λ way. Rests way frames.old frames.new) }
 {

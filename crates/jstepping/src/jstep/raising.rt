@@ -31,7 +31,7 @@ pub fn thrown_class(class: LibClass) -> Thrown
 }
 
 /// Raises an exception of a class of the library, without a message.
-#[tactic(auto, using(crate::proofs::JstepProofs::RowCompletion::stood, crate::proofs::JstepProofs::RowCompletion::quiet_raised, crate::proofs::JstepProofs::ObjectPreservation::raised_names))]
+#[tactic(auto, using(crate::proofs::JstepProofs::RowCompletion::stood, crate::proofs::JstepProofs::RowCompletion::quiet_raised, crate::proofs::JstepProofs::ObjectPreservation::raised_names,),)]
 pub fn settle_raised<M: Copy>(
     alloc: Global,
     frames: &mut Frames<M>,
@@ -62,7 +62,7 @@ pub fn settle_raised<M: Copy>(
 }
 
 /// Throws the object of a number (JVMS 2.10), which is no array.
-#[tactic(auto, using(crate::proofs::JstepProofs::RowCompletion::stood, crate::proofs::JstepProofs::RowCompletion::quiet_raised, crate::proofs::JstepProofs::RowCompletion::none_thrown, crate::proofs::JstepProofs::RowCompletion::array_thrown))]
+#[tactic(auto, using(crate::proofs::JstepProofs::RowCompletion::stood, crate::proofs::JstepProofs::RowCompletion::quiet_raised, crate::proofs::JstepProofs::RowCompletion::none_thrown, crate::proofs::JstepProofs::RowCompletion::array_thrown,),)]
 pub fn settle_thrown<M: Copy>(
     frames: &mut Frames<M>,
     heap: &Heap,

@@ -45,7 +45,8 @@ pub(crate) fn step_return<M: Copy>(
     kind: Returned,
 ) -> Result<Stepped, AllocError>
     requires stand { Stand (length fixed.now.marks.now) (all frames.old) }
-    ensures row { (p : Program) → IfOk result (λ done. Executes p fixed.now counts (Some (Return kind)) frames.old heap.now done frames.new heap.now) }
+    ensures row { (p : Program)
+        → IfOk result (λ done. Executes p fixed.now counts (Some (Return kind)) frames.old heap.now done frames.new heap.now) }
     ensures stand { IfOk result (λ done. StoodAs (length fixed.now.marks.now) done frames.new) }
 {
     let way = return_kind(frames, heap, fixed.marks, counts, kind)?;

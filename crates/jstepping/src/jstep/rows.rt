@@ -21,7 +21,7 @@ use std::alloc::{AllocError, Global};
 
 /// The row of an instruction by number that is here.
 #[inline]
-#[tactic(auto, using(jrows::proofs::JactsProofs::ArrayFailures::same, jrows::proofs::JactsProofs::ArrayFailures::ok_same, crate::proofs::JstepProofs::ObjectPreservation::same_celled, crate::proofs::JstepProofs::ObjectPreservation::same_celled_if))]
+#[tactic(auto, using(jrows::proofs::JactsProofs::ArrayFailures::same, jrows::proofs::JactsProofs::ArrayFailures::ok_same, crate::proofs::JstepProofs::ObjectPreservation::same_celled, crate::proofs::JstepProofs::ObjectPreservation::same_celled_if,),)]
 fn run_row<M: Copy>(
     alloc: Global,
     frames: &mut Frames<M>,
@@ -76,7 +76,8 @@ pub fn run<M: Copy>(
     ensures kept { IfOk result (λ way. Rests way heap.old heap.new) }
     ensures built { OnOk result (AreBuilt heap.new.objects) }
     ensures celled { OnOk result (StayCelled heap.old.objects heap.new.objects) }
-    ensures alike { IfOk result (λ way. (p : Program) (things : Things) → LeavesAlike p fixed.now.shapes.now things way heap.old.objects heap.new.objects) }
+    ensures alike { IfOk result
+        (λ way. (p : Program) (things : Things) → LeavesAlike p fixed.now.shapes.now things way heap.old.objects heap.new.objects) }
 {
     alike_laws::<M>();
     run_row(alloc, frames, heap, fixed, one)

@@ -42,7 +42,8 @@ fn step_row<M: Copy>(
     requires within { Within fixed.now.tables.now one }
     requires stand { Stand (length fixed.now.marks.now) (all frames.old) }
     requires built { AreBuilt heap.old.objects }
-    ensures row { IfOk result (λ done. (counts : CountsOf) → Executes known.now fixed.now counts (meant known.now fixed.now.tables.now frames.old.newest.method.class one)
+    ensures row { IfOk result
+        (λ done. (counts : CountsOf) → Executes known.now fixed.now counts (meant known.now fixed.now.tables.now frames.old.newest.method.class one)
         frames.old heap.old done frames.new heap.new) }
     ensures built { OnOk result (AreBuilt heap.new.objects) }
     ensures celled { OnOk result (StayCelled heap.old.objects heap.new.objects) }
@@ -71,7 +72,8 @@ fn step_flow<M: Copy>(
     requires here { IsFlowStep f }
     requires stand { Stand (length fixed.now.marks.now) (all frames.old) }
     requires built { AreBuilt heap.old.objects }
-    ensures row { IfOk result (λ done. Executes known.now fixed.now counts (meant known.now fixed.now.tables.now frames.old.newest.method.class (instrs.Flow f))
+    ensures row { IfOk result
+        (λ done. Executes known.now fixed.now counts (meant known.now fixed.now.tables.now frames.old.newest.method.class (instrs.Flow f))
         frames.old heap.old done frames.new heap.new) }
     ensures built { OnOk result (AreBuilt heap.new.objects) }
     ensures celled { OnOk result (StayCelled heap.old.objects heap.new.objects) }

@@ -57,7 +57,7 @@ fn serves<M: Copy>(
 }
 
 /// A step that throws (JVMS 6.5: athrow).
-#[tactic(auto, using(crate::proofs::JstepProofs::ObjectPreservation::same_celled, crate::proofs::JstepProofs::ObjectPreservation::same_names, crate::proofs::JstepProofs::ObjectPreservation::same_celled_if, crate::proofs::JstepProofs::ObjectPreservation::same_names_if))]
+#[tactic(auto, using(crate::proofs::JstepProofs::ObjectPreservation::same_celled, crate::proofs::JstepProofs::ObjectPreservation::same_names, crate::proofs::JstepProofs::ObjectPreservation::same_celled_if, crate::proofs::JstepProofs::ObjectPreservation::same_names_if,),)]
 pub(crate) fn step_throw<M: Copy>(
     alloc: Global,
     frames: &mut Frames<M>,

@@ -99,7 +99,8 @@ fn link_refusal(alloc: Global, parts: &[CodePart], fault: LinkFault) -> Result<R
 
 /// Why parts make no program: the first broken rule, or that no memory was left.
 fn not_linked(alloc: Global, parts: &[CodePart], error: LinkError) -> Result<LinkedProgram, Halt>
-    ensures value { (p : Program) (found : Option LinkFault) → p.parts ≡ parts.now → LinkErrorIs found error → Follows (λ x. x) result (unless_broken p found) }
+    ensures value { (p : Program) (found : Option LinkFault) → p.parts ≡ parts.now → LinkErrorIs found error
+        → Follows (λ x. x) result (unless_broken p found) }
     ensures unread { result ≡ Err Read → ⊥ }
 {
     match error {

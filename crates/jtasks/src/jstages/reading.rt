@@ -97,7 +97,8 @@ fn policy_at<S: Shelf>(
     ensures held { S.held shelf.new ≡ S.held shelf.old }
     ensures stored { S.write_faults shelf.new ≡ S.write_faults shelf.old }
     ensures later { S.read_faults shelf.old ≤ S.read_faults shelf.new }
-    ensures cause { Excused result (S.read_faults shelf.old) (S.read_faults shelf.new) (S.held shelf.old) (λ files. grants_of files props.now (Some path.now)) }
+    ensures cause { Excused result (S.read_faults shelf.old) (S.read_faults shelf.new) (S.held shelf.old)
+        (λ files. grants_of files props.now (Some path.now)) }
 {
     let bytes = read_at(alloc, path.as_str(), shelf)?;
     grants_read(alloc, &bytes, props)

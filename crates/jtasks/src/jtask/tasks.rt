@@ -272,7 +272,8 @@ fn check_of_ground<S: Shelf>(
     ensures held { S.held shelf.new ≡ S.held shelf.old }
     ensures stored { S.write_faults shelf.new ≡ S.write_faults shelf.old }
     ensures later { S.read_faults shelf.old ≤ S.read_faults shelf.new }
-    ensures cause { Excused result (S.read_faults shelf.old) (S.read_faults shelf.new) (S.held shelf.old) (λ files. check_of_ground files side ground) }
+    ensures cause { Excused result (S.read_faults shelf.old) (S.read_faults shelf.new) (S.held shelf.old)
+        (λ files. check_of_ground files side ground) }
 {
     let parts = parts_at(alloc, ground.classes.as_slice(), shelf);
     drop(ground);
@@ -343,7 +344,8 @@ fn rewrite_of_ground<S: Shelf>(
     ensures held { S.held shelf.new ≡ S.held shelf.old }
     ensures stored { S.write_faults shelf.new ≡ S.write_faults shelf.old }
     ensures later { S.read_faults shelf.old ≤ S.read_faults shelf.new }
-    ensures cause { Excused result (S.read_faults shelf.old) (S.read_faults shelf.new) (S.held shelf.old) (λ files. rewrite_of_ground files text to ground) }
+    ensures cause { Excused result (S.read_faults shelf.old) (S.read_faults shelf.new) (S.held shelf.old)
+        (λ files. rewrite_of_ground files text to ground) }
 {
     let parts = parts_at(alloc, ground.classes.as_slice(), shelf);
     drop(ground);
@@ -372,7 +374,8 @@ fn rewrite_of_text<S: Shelf>(
     ensures held { S.held shelf.new ≡ S.held shelf.old }
     ensures stored { S.write_faults shelf.new ≡ S.write_faults shelf.old }
     ensures later { S.read_faults shelf.old ≤ S.read_faults shelf.new }
-    ensures cause { Excused result (S.read_faults shelf.old) (S.read_faults shelf.new) (S.held shelf.old) (λ files. rewrite_of_text files to.now text.now) }
+    ensures cause { Excused result (S.read_faults shelf.old) (S.read_faults shelf.new) (S.held shelf.old)
+        (λ files. rewrite_of_text files to.now text.now) }
 {
     let ground = ground_in(alloc, text, shelf)?;
     let text = text_in(alloc, text)?;
@@ -388,7 +391,8 @@ fn rewrite_at<S: Shelf>(alloc: Global, path: &str, to: &Text, shelf: &mut S) -> 
     ensures held { S.held shelf.new ≡ S.held shelf.old }
     ensures stored { S.write_faults shelf.new ≡ S.write_faults shelf.old }
     ensures later { S.read_faults shelf.old ≤ S.read_faults shelf.new }
-    ensures cause { Excused result (S.read_faults shelf.old) (S.read_faults shelf.new) (S.held shelf.old) (λ files. rewrite_at files to.now path.now) }
+    ensures cause { Excused result (S.read_faults shelf.old) (S.read_faults shelf.new) (S.held shelf.old)
+        (λ files. rewrite_at files to.now path.now) }
 {
     let text = read_at(alloc, path, shelf)?;
     rewrite_of_text(alloc, &text, to, shelf)

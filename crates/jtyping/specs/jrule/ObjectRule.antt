@@ -45,7 +45,8 @@ may_ready_this here owner = not here.covered && (same_name owner here.class || i
 
 -- every copy of the object is of its class
 abbrev pub readied : Unready → Name → Bool → List VType → List VType → Frame
-readied it class flag locals stack = record { locals = all_replaced it (Object class) locals; stack = all_replaced it (Object class) stack; flag = flag }
+readied it class flag locals stack =
+    record { locals = all_replaced it (Object class) locals; stack = all_replaced it (Object class) stack; flag = flag }
 
 abbrev pub init_on : Here → Name → Frame → List VType → Option Frame
 init_on here owner f (Uninit o ∷ stack) = if is_named owner (here.makes o) then Some (readied (unready.New o) owner f.flag f.locals stack) else None

@@ -52,7 +52,8 @@ pub record HasFrame (p : Program) (m : Method) (ws : List Written) (fs : List Fr
 -- The instructions of a method have these frames.
 pub record AreFrames (p : Program) (m : Method) (ws : List Written) (fs : List Frame) : Type 0 where
   pub each : length fs ≡ length m.body.ops
-  pub begins : (o : Placed) (f : Frame) → slice_get m.body.ops 0 ≡ Some o → slice_get fs 0 ≡ Some f → Arrives (tree p) (declared_at ws (pos o.at)) (first_frame m) f
+  pub begins : (o : Placed) (f : Frame) → slice_get m.body.ops 0 ≡ Some o → slice_get fs 0 ≡ Some f
+      → Arrives (tree p) (declared_at ws (pos o.at)) (first_frame m) f
   pub serves : (n : ℕ) (o : Placed) (f : Frame) → slice_get m.body.ops n ≡ Some o → slice_get fs n ≡ Some f → Serves p m ws fs n o f
 
 -- A method is well typed: its declared frames are good, its parameters have room, and its instructions can be given frames.

@@ -147,7 +147,8 @@ fn load(
 
 #[tactic(auto, using(crate::proofs::JruleProofs::OperandPops::taken_more))]
 fn store_of(p: &NamedProgram, kind: Kind, items: Element, f: FrameRef) -> Option<FrameRef>
-    ensures { option_map (seen p.now) result ≡ taken (tree p.now) (StackEffects.Of kind ∷ StackEffects.Of Kind.Int ∷ StackEffects.Holds items ∷ []) (seen p.now f) }
+    ensures { option_map (seen p.now) result ≡ taken (tree p.now) (StackEffects.Of kind ∷ StackEffects.Of Kind.Int ∷ StackEffects.Holds items ∷ [])
+        (seen p.now f) }
 {
     let f = take_kind(p, kind, f)?;
     let f = take_kind(p, Kind::Int, f)?;

@@ -49,7 +49,7 @@ impl Locals {
     }
 
     /// The type of a local; none where it isn't there.
-    #[tactic(auto, using(crate::proofs::JruleProofs::LocalPrefixes::got_kept, crate::proofs::JruleProofs::LocalPrefixes::got_top, crate::proofs::JruleProofs::LocalPrefixes::got_none))]
+    #[tactic(auto, using(crate::proofs::JruleProofs::LocalPrefixes::got_kept, crate::proofs::JruleProofs::LocalPrefixes::got_top, crate::proofs::JruleProofs::LocalPrefixes::got_none,),)]
     pub fn get(&self, n: usize) -> Option<TypeRef>
         ensures { result ≡ slice_get self.now n }
     {

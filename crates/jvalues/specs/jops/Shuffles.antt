@@ -57,7 +57,8 @@ moved s = moves s.taken (reverse (take s.put s.values))
 -- What goes and comes depends on the items that go alone: where a form fits a stack, the same goes and comes with any others
 -- below, and no more go than are there.
 abbrev pub LooksNoDeeper : Type 0 → Type 0
-LooksNoDeeper V = (s : Shuffle) (stack below : List (Item V)) (m : Move V) → shuffle s stack ≡ Some m → (shuffle s (stack ++ below) ≡ Some m) × (m.taken ≤ length stack)
+LooksNoDeeper V = (s : Shuffle) (stack below : List (Item V)) (m : Move V) → shuffle s stack ≡ Some m
+    → (shuffle s (stack ++ below) ≡ Some m) × (m.taken ≤ length stack)
 
 -- no form looks at more than the newest four items
 abbrev pub LooksAtFour : Type 0 → Type 0

@@ -61,4 +61,5 @@ DivisionGives K = (op : Division) (a b v : Value K) → divide op a b ≡ Some (
 -- two ints, or two references where these may be compared
 abbrev pub TestByKinds : Type 0 → Type 0
 TestByKinds K = (c : Compare) (a b : Value K)
-    → is_some (test c a b) ≡ (are_of (many.Two kinds.Int kinds.Int) (b ∷ a ∷ []) || (compares_references c && are_of (many.Two kinds.Ref kinds.Ref) (b ∷ a ∷ [])))
+    → is_some (test c a b)
+    ≡ (are_of (many.Two kinds.Int kinds.Int) (b ∷ a ∷ []) || (compares_references c && are_of (many.Two kinds.Ref kinds.Ref) (b ∷ a ∷ [])))

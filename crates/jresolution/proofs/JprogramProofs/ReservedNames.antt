@@ -1,9 +1,8 @@
--- No user's class has the name of one of the library, on whichever side that stands, and what a class of the library extends is one of the library.
-use Rattle.std.proofs.Common.{◌≡◌, ◌∙◌, ◌⊎◌, inl, inr, ℕ, zero, suc, ◌+◌, ◌||◌, Bool, true, false, List, [], ◌∷◌, ◌++◌, length, Option, Some, None, refl, sym, ap, subst}
-use Rattle.std.specs.Prelude.{is_some, option_and_then, option_map, slice_get}
-use Rattle.std.specs.List.{AllByRecursion, list_any}
-use Rattle.std.specs.Option.{option_to_list}
-use Rattle.std.specs.Str.{bytes_eq}
+-- Names of the library: no user's class has the name of one of its classes, on whichever side that stands, or one that is kept for the passing
+-- side.
+use Rattle.std.proofs.Common.{◌≡◌, ◌∙◌, ◌⊎◌, inl, inr, ℕ, zero, suc, ◌||◌, Bool, true, false, List, [], ◌∷◌, Option, Some, None, refl, sym, ap, subst}
+use Rattle.std.specs.Prelude.{is_some, option_and_then, slice_get}
+use Rattle.std.specs.List.{list_any}
 use Rattle.jground.proofs.JbaseProofs.Firsts.{none_fails, none_of}
 use Rattle.jclass.specs.declared.class.ClassParts.{ClassParts}
 use Rattle.jparts.specs.declared.jpool.entry.Entry.{Entry}
@@ -21,16 +20,13 @@ use Rattle.jlib.specs.LibraryClasses as library
 use Rattle.jlib.proofs.LibraryLookup.{class_only}
 use Rattle.jresolution.specs.declared.jprogram.fault.LinkKind.TheVariants.{ReservedName}
 use Rattle.jresolution.specs.declared.jprogram.part.CodePart.{CodePart}
-use Rattle.jresolution.specs.declared.jprogram.part.ClassRef.TheVariants as refs
-use Rattle.jresolution.specs.jprogram.ProgramClasses.{Program, above, above_name, chain, extends, face_names, find, known, object, onward, ref_of, up}
+use Rattle.jresolution.specs.jprogram.ProgramClasses.{Program}
 use Rattle.jresolution.specs.jprogram.NameChecks.{entry_reserved, in_class, is_reserved, member_reserved, names_reserved, naming_fault, naming_test, reserved_test, taken_test, text_reserved}
 use Rattle.jresolution.specs.jprogram.ProofNames.{reserved_on}
 use Rattle.jresolution.specs.jprogram.ClassFileParts.{or_empty, text, this_name}
 use Rattle.jresolution.specs.jprogram.OrderedPrograms.{StandsInOrder}
-use Rattle.jresolution.proofs.JprogramProofs.CycleSearch.{or_split}
-use Rattle.jresolution.proofs.JprogramProofs.SuperclassOrder.{object_find}
-use Rattle.jresolution.proofs.JprogramProofs.NameReachability.{clash, name_is}
-use Rattle.jresolution.proofs.JprogramProofs.ClassHeights.{LibStep, Libs, Nowhere, Stands, Users, fault_none, in_none, lib_steps, not_taken, or_none, stands}
+use Rattle.jresolution.proofs.JprogramProofs.NameReachability.{clash}
+use Rattle.jresolution.proofs.JprogramProofs.ClassHeights.{fault_none, in_none, not_taken, or_none}
 use Rattle.jparts.specs.jpool.PoolEntries.{class_parts}
 
 -- ---- the library's classes, by their sides
@@ -70,15 +66,15 @@ permission_sides side permissions.PropertyPermission = refl
 permission_sides side permissions.FilePermission = refl
 
 -- One that a side hasn't has a name that is kept for the other side.
-record IsKept (side : Side) (l : LibClass) : Type 0 where
-  here : side ≡ Source
-  none : library.class_named side (library.name_of l) ≡ None
-  kept : is_reserved (library.name_of l) ≡ true
+pub record IsKept (side : Side) (l : LibClass) : Type 0 where
+  pub here : side ≡ Source
+  pub none : library.class_named side (library.name_of l) ≡ None
+  pub kept : is_reserved (library.name_of l) ≡ true
 
-abbrev Sided : Side → LibClass → Type 0
+abbrev pub Sided : Side → LibClass → Type 0
 Sided side l = (library.stands_on side l ≡ true) ⊎ (IsKept side l)
 
-sided : (side : Side) (l : LibClass) → Sided side l
+pub sided : (side : Side) (l : LibClass) → Sided side l
 sided side (lib.Thrown t) = inl (thrown_sides side t)
 sided side (lib.Permission c) = inl (permission_sides side c)
 sided side lib.Object = inl refl
@@ -100,14 +96,22 @@ sided Passing lib.Rt = inl refl
 sided Source lib.Ctx = inr (record { here = refl; none = refl; kept = refl })
 sided Passing lib.Ctx = inl refl
 
+-- what a side has by the name of a class is that class
+pub named_own : (side : Side) (l m : LibClass) → library.class_named side (library.name_of l) ≡ Some m → m ≡ l
+named_own side l m is = by (sided side l)
+  where
+    by : Sided side l → m ≡ l
+    by (inl on) = let both : Some m ≡ Some l = sym is ∙ class_only side l on in cc
+    by (inr kept) = let both : None ≡ Some m = sym kept.none ∙ is in absurd cc
+
 -- ---- names that are kept for the passing side
 
-any_false : {A : Type 0} (f : A → Bool) (xs : List A) (i : ℕ) (x : A) → list_any f xs ≡ false → slice_get xs i ≡ Some x → f x ≡ false
+pub any_false : {A : Type 0} (f : A → Bool) (xs : List A) (i : ℕ) (x : A) → list_any f xs ≡ false → slice_get xs i ≡ Some x → f x ≡ false
 any_false f [] i x h at = absurd cc
 any_false f (y ∷ ys) zero x h at = let same : y ≡ x = cc in subst (λ z. f z ≡ false) same (or_none (f y) (list_any f ys) h).0
 any_false f (y ∷ ys) (suc i) x h at = any_false f ys i x (or_none (f y) (list_any f ys) h).1 at
 
-plain_in : (pool : List Entry) (i : ℕ) (o : Option Entry) → slice_get pool i ≡ o → list_any (entry_reserved pool) pool ≡ false
+pub plain_in : (pool : List Entry) (i : ℕ) (o : Option Entry) → slice_get pool i ≡ o → list_any (entry_reserved pool) pool ≡ false
     → is_reserved (or_empty (option_and_then (utf8_at pool) (option_and_then class_parts o))) ≡ false
 plain_in pool i (Some (Class n)) at h =
     let kept = any_false (entry_reserved pool) pool i (Class n) h at in
@@ -129,14 +133,14 @@ plain_in pool i (Some (MethodType d)) at h = refl
 plain_in pool i (Some (InvokeDynamic b d)) at h = refl
 
 -- the name of a class isn't kept, where none is that its pool names
-this_plain : (c : ClassParts) → names_reserved c ≡ false → is_reserved (this_name c) ≡ false
+pub this_plain : (c : ClassParts) → names_reserved c ≡ false → is_reserved (this_name c) ≡ false
 unfolding class_name_at
 this_plain c h =
     plain_in c.pool c.this_class (slice_get c.pool c.this_class) refl
     (or_none (list_any (entry_reserved c.pool) c.pool) (list_any (member_reserved c) c.methods || list_any (member_reserved c) c.fields) h).0
 
 module _ (p : Program) (good : StandsInOrder p) where
-  unreserved : (i : ℕ) (part : CodePart) → slice_get p.parts i ≡ Some part → reserved_on p.side part.class ≡ false
+  pub unreserved : (i : ℕ) (part : CodePart) → slice_get p.parts i ≡ Some part → reserved_on p.side part.class ≡ false
   unfolding naming_fault reserved_test
   unreserved i part at =
       let one : naming_test p i part ≡ None = in_none i (naming_test p i part) (none_fails (λ i part. in_class i (naming_test p i part)) p.parts i part good.named at) in
@@ -152,58 +156,3 @@ module _ (p : Program) (good : StandsInOrder p) where
       by (inr kept) =
           let plain = this_plain part.class (sym (ap (λ (s : Side). reserved_on s part.class) kept.here) ∙ unreserved i part at) in
           clash (is_reserved (library.name_of l)) kept.kept (sym (ap is_reserved named) ∙ plain)
-
--- ---- what stands below a user's class is a user's class
-
-module _ (p : Program) (good : StandsInOrder p) where
-  -- a name is of no user's class
-  abbrev pub IsNoUser : List ℕ → Type 0
-  IsNoUser c = (i : ℕ) → option_map ref_of (find p c) ≡ Some (refs.User i) → ⊥
-
-  above_no_user : (c a : List ℕ) → IsNoUser c → above_name p c ≡ Some a → IsNoUser a
-  above_no_user c a not-one is = by (stands p c)
-    where
-      by : Stands p c → IsNoUser a
-      by (Users i part at own found) = absurd (not-one i (ap (option_map ref_of) found))
-      by (Nowhere none) = let never : None ≡ Some a = sym (ap (option_and_then above) none) ∙ is in absurd cc
-      by (Libs l called found) =
-          let all = subst (λ (o : Option (List ℕ)). AllByRecursion (LibStep p (not_taken p good) l) (option_to_list o ++ face_names p c)) is (lib_steps p (not_taken p good) l c found) in
-          λ i user.
-          let step = all.0 in
-          let both : Some (refs.Lib step.one) ≡ Some (refs.User i) = sym (ap (option_map ref_of) step.is) ∙ user in
-          cc
-
-  onward_no_user : (n : ℕ) (c d : List ℕ) (o : Option (List ℕ)) → above_name p c ≡ o → IsNoUser c
-      → ((a : List ℕ) → IsNoUser a → list_any (bytes_eq d) (chain p n a) ≡ true → IsNoUser d)
-      → list_any (bytes_eq d) (onward (chain p n) o) ≡ true → IsNoUser d
-  onward_no_user n c d None is not-one more e = absurd cc
-  onward_no_user n c d (Some a) is not-one more e = more a (above_no_user c a not-one is) e
-
-  chain_no_user : (n : ℕ) (c d : List ℕ) → IsNoUser c → list_any (bytes_eq d) (chain p n c) ≡ true → IsNoUser d
-  unfolding chain
-  chain_no_user zero c d not-one e = absurd cc
-  chain_no_user (suc n) c d not-one e = elim (or_split (bytes_eq d c) (list_any (bytes_eq d) (onward (chain p n) (above_name p c))) e) [
-    | inl same ↦ subst IsNoUser (sym (name_is d c same)) not-one
-    | inr far ↦ onward_no_user n c d (above_name p c) refl not-one (λ a none h. chain_no_user n a d none h) far
-  ]
-
-  object_no_user : IsNoUser object
-  object_no_user i user =
-      let both : Some (refs.Lib lib.Object) ≡ Some (refs.User i) = sym (ap (option_map ref_of) (object_find p good)) ∙ user in
-      cc
-
-  -- what stands above one that isn't a user's isn't either
-  pub above_is_no_user : (c d : List ℕ) → extends p c d ≡ true → IsNoUser c → IsNoUser d
-  unfolding extends
-  above_is_no_user c d e not-one = elim (or_split (bytes_eq d object) (list_any (bytes_eq d) (up p c)) e) [
-    | inl top ↦ subst IsNoUser (sym (name_is d object top)) object_no_user
-    | inr far ↦ chain_no_user (length (known p) + 1) c d not-one far
-  ]
-
-  pub lib_no_user : (l : LibClass) → IsNoUser (library.name_of l)
-  lib_no_user l i user = by (stands p (library.name_of l))
-    where
-      by : Stands p (library.name_of l) → ⊥
-      by (Users k part at own found) = lib_apart p good k part l at own
-      by (Libs m called found) = let both : Some (refs.Lib m) ≡ Some (refs.User i) = sym (ap (option_map ref_of) found) ∙ user in cc
-      by (Nowhere none) = let both : None ≡ Some (refs.User i) = sym (ap (option_map ref_of) none) ∙ user in cc

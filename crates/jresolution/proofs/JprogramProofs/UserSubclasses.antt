@@ -18,7 +18,7 @@ use Rattle.jresolution.proofs.JprogramProofs.CycleSearch.{or_split}
 use Rattle.jresolution.proofs.JprogramProofs.SuperclassOrder.{object_find}
 use Rattle.jresolution.proofs.JprogramProofs.NameReachability.{name_is}
 use Rattle.jresolution.proofs.JprogramProofs.ClassHeights.{LibStep, Libs, Nowhere, Stands, Users, lib_steps, not_taken, stands}
-use Rattle.jstepping.proofs.JrefsProofs.LibraryNames.{lib_apart}
+use Rattle.jresolution.proofs.JprogramProofs.ReservedNames.{lib_apart}
 
 pub unnamed : (side : Side) → library.class_named side [] ≡ None
 unnamed Source = refl
