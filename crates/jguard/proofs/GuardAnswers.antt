@@ -13,7 +13,7 @@ use Rattle.jsemantics.specs.jmachine.Security.{Privilege, Rules}
 use Rattle.jsemantics.specs.jmachine.MachineSteps.{step}
 use Rattle.jguard.specs.GuardLaws.{AnswersSo, AreMarked, GuardedOpening, GuardedStep, MarksStand, StaysStanding, StepKnown}
 use Rattle.jguard.specs.GuardQueries.{answer_kind, kind}
-use Rattle.jguard.specs.NumberMeanings.{Answers, AnswersFor, ComesTo, Keeps, StandsFor}
+use Rattle.jguard.specs.NumberMeanings.{Answers, AnswersFor, AreKnown, ComesTo, IsAskKnown, IsKnown, Keeps, StandsFor}
 use Rattle.jguard.proofs.RelationStability.{stays}
 use Rattle.jguard.proofs.OptionalRules.{agrees, lifted}
 use Rattle.jguard.proofs.StepSimulation.{ask_stands, asks_stand, comes, entries_stand, found_ask, inherited_stands, known}
@@ -41,6 +41,18 @@ answered_kind r es below (Snapshots ctx) = refl
 answered_kind r es below (Inherits ctx) = refl
 answered_kind r es below (Enters k domain) = refl
 answered_kind r es below (Privileges domain ctx given limits) = refl
+
+-- an answer that a guard gave is of the kind of what it was asked
+pub kind_is : {N M K E : Type 0} (old new : N → Option K) (old_marks new_marks : M → Option E) (rules : Rules K E) (ask : Ask N) (marks : List M) (inherited : Option N) (given : Answer N M)
+    → IsAskKnown old ask → AreKnown old_marks marks → IsKnown old inherited → AnswersFor old new old_marks new_marks rules ask marks inherited given → answer_kind given ≡ kind ask
+kind_is {N} {M} {K} {E} old new old_marks new_marks rules ask marks inherited given asked entries below answers =
+    sym (answer_kind_map new new_marks given)
+    ∙ ap (λ (x : Answer (Option K) (Option E)). answer_kind x) (answers asked.0 entries.0 below.0 asked.1 entries.1 below.1)
+    ∙ answer_kind_map Some Some (answer rules entries.0 below.0 asked.0)
+    ∙ answered_kind rules entries.0 below.0 asked.0
+    ∙ sym (kind_map Some asked.0)
+    ∙ ap (λ (x : Ask (Option K)). kind x) (sym asked.1)
+    ∙ kind_map old ask
 
 -- ---- rules that give one answer
 

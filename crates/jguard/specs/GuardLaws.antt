@@ -46,6 +46,7 @@ abbrev pub GuardedStep : Type 0 → Type 0 → Type 0 → Type 0
 GuardedStep M K E = (old new : ℕ → Option K) (old_marks new_marks : M → Option E) → Keeps old new → Keeps old_marks new_marks
     → (mark : ℕ → M) (rules : Rules K E) → MarksStand new_marks mark rules
     → (p : Program) (plan : Plan) (s : State ℕ M) (meant : State K E) → StandsFor old old_marks s meant
-    → (given : Answer ℕ M) → ((ask : Ask ℕ) → asks rules.side p plan s ≡ Some ask → AnswersFor old new old_marks new_marks rules ask (carried s) s.running.inherited given)
+    → (given : Answer ℕ M)
+    → ((ask : Ask ℕ) → asks rules.side p plan s ≡ Some ask → AnswersFor old new old_marks new_marks rules ask (carried s) s.running.inherited given)
     → (o : Outcome (State ℕ M)) → ((r : Rules ℕ M) → AreMarked mark rules r → AnswersSo rules p plan s given r → step r p plan s ≡ o)
     → ComesTo new new_marks o (step rules p plan meant)

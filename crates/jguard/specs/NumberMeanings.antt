@@ -53,7 +53,8 @@ pub record IsKnownIn {N M K E : Type 0} (f : N → Option K) (g : M → Option E
 
 -- An answer by numbers is what rules answer to an ask, whatever its numbers, the frames' marks, the newest first, and what the thread
 -- inherited stand for. Numbers may be given meanwhile.
-abbrev pub AnswersFor : {N M K E : Type 0} → (N → Option K) → (N → Option K) → (M → Option E) → (M → Option E) → Rules K E → Ask N → List M → Option N → Answer N M → Type 0
+abbrev pub AnswersFor : {N M K E : Type 0} → (N → Option K) → (N → Option K) → (M → Option E) → (M → Option E) → Rules K E → Ask N → List M
+    → Option N → Answer N M → Type 0
 AnswersFor {N} {M} {K} {E} old new old_marks new_marks rules ask marks inherited given =
     (meant : Ask K) (entries : List E) (below : Option K) → Asks old ask meant → AreThose old_marks marks entries → IsThat old inherited below
     → Answers new new_marks given (answer rules entries below meant)

@@ -19,7 +19,8 @@ AsksAsFetched K E = (side : Side) (p : Program) (plan : Plan) (s : State K E) (f
 
 -- and a call what the member of the library asks to which it comes, with the operands that it takes.
 abbrev pub AsksAsCalled : Type 0 → Type 0 → Type 0
-AsksAsCalled K E = (side : Side) (p : Program) (plan : Plan) (s : State K E) (f : FrameOf K E) (below : List (FrameOf K E)) (by : InvokeKind) (c : CallMeaning)
+AsksAsCalled K E = (side : Side) (p : Program) (plan : Plan) (s : State K E) (f : FrameOf K E) (below : List (FrameOf K E)) (by : InvokeKind)
+    (c : CallMeaning)
     → s.running.frames ≡ f ∷ below → fetched p f.method f.place ≡ Some (Used (Call by c))
     → (t : Taken K) → call_taken side (site_of p plan s f below) s.store by c f.operands ≡ Some t
     → (to : Option Target) → target (site_of p plan s f below) s.store by c t.values ≡ to

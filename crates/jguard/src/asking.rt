@@ -10,33 +10,36 @@ use jdomain::Verdict;
 use jperm::Permission;
 use std::alloc::{AllocError, Global};
 
-/// The verdict of an answer to a check.
+/// The verdict of an answer to a check. Condition: it is one.
 fn verdict_in<M: Copy>(answer: Answer<M>) -> Verdict
-    ensures { answer_kind (given_by answer) ≡ 0 → given_by answer ≡ Decided result }
+    requires { answer_kind (given_by answer) ≡ 0 }
+    ensures { given_by answer ≡ Decided result }
 {
     match answer {
         Answer::Verdict(verdict) => verdict,
-        _ => Verdict::Granted,
+        _ => unreachable!(),
     }
 }
 
-/// The number of an answer that keeps something.
+/// The number of an answer that keeps something. Condition: it does.
 fn kept_in<M: Copy>(answer: Answer<M>) -> u64
-    ensures { answer_kind (given_by answer) ≡ 1 → given_by answer ≡ Kept result }
+    requires { answer_kind (given_by answer) ≡ 1 }
+    ensures { given_by answer ≡ Kept result }
 {
     match answer {
         Answer::Kept(number) => number,
-        _ => 0,
+        _ => unreachable!(),
     }
 }
 
-/// The number of an answer that enters a context.
+/// The number of an answer that enters a context. Condition: it does.
 fn entered_in<M: Copy>(answer: Answer<M>) -> u64
-    ensures { answer_kind (given_by answer) ≡ 2 → given_by answer ≡ Entered result }
+    requires { answer_kind (given_by answer) ≡ 2 }
+    ensures { given_by answer ≡ Entered result }
 {
     match answer {
         Answer::Ctx(number) => number,
-        _ => 0,
+        _ => unreachable!(),
     }
 }
 
@@ -48,16 +51,14 @@ pub struct Marked<M> {
     pub ctx: Option<u64>,
 }
 
-/// What an answer makes of a privilege.
-fn marked_in<M: Copy>(answer: Answer<M>, other: M) -> Marked<M>
-    ensures { answer_kind (given_by answer) ≡ 3 → given_by answer ≡ Allowed (record { caller = result.caller; context = result.ctx }) }
+/// What an answer makes of a privilege. Condition: it is one to a privilege.
+fn marked_in<M: Copy>(answer: Answer<M>) -> Marked<M>
+    requires { answer_kind (given_by answer) ≡ 3 }
+    ensures { given_by answer ≡ Allowed (record { caller = result.caller; context = result.ctx }) }
 {
     match answer {
         Answer::Marked { caller, ctx } => Marked { caller, ctx },
-        _ => Marked {
-            caller: other,
-            ctx: None,
-        },
+        _ => unreachable!(),
     }
 }
 
@@ -95,7 +96,8 @@ pub fn ask_snapshot<G: Guard>(
     requires ask { IsAskKnown (G.kept guard.old) (Snapshots ctx) }
     requires marks { AreKnown (G.entry guard.old) (reverse marks.now) }
     requires inherited { IsKnown (G.kept guard.old) inherited }
-    ensures answer { IfOk result (λ n. AnswersFor (G.kept guard.old) (G.kept guard.new) (G.entry guard.old) (G.entry guard.new) (G.rules guard.old) (Snapshots ctx)
+    ensures answer { IfOk result
+        (λ n. AnswersFor (G.kept guard.old) (G.kept guard.new) (G.entry guard.old) (G.entry guard.new) (G.rules guard.old) (Snapshots ctx)
         (reverse marks.now) inherited (Kept n)) }
     ensures once { OnOk result (G.asked guard.old (Snapshots ctx) guard.new) }
     ensures rules { G.rules guard.new ≡ G.rules guard.old }
@@ -140,7 +142,8 @@ pub fn ask_inherit<G: Guard>(
     requires ask { IsAskKnown (G.kept guard.old) (Inherits ctx) }
     requires marks { AreKnown (G.entry guard.old) (reverse marks.now) }
     requires inherited { IsKnown (G.kept guard.old) inherited }
-    ensures answer { IfOk result (λ n. AnswersFor (G.kept guard.old) (G.kept guard.new) (G.entry guard.old) (G.entry guard.new) (G.rules guard.old) (Inherits ctx)
+    ensures answer { IfOk result
+        (λ n. AnswersFor (G.kept guard.old) (G.kept guard.new) (G.entry guard.old) (G.entry guard.new) (G.rules guard.old) (Inherits ctx)
         (reverse marks.now) inherited (Kept n)) }
     ensures once { OnOk result (G.asked guard.old (Inherits ctx) guard.new) }
     ensures rules { G.rules guard.new ≡ G.rules guard.old }
@@ -195,7 +198,6 @@ pub fn ask_privilege<G: Guard>(
     ensures keeps { Keeps (G.kept guard.old) (G.kept guard.new) }
     ensures marks { Keeps (G.entry guard.old) (G.entry guard.new) }
 {
-    let other = guard.mark_of(0);
     let answer = guard.secure(
         alloc,
         Ask::Privileged {
@@ -207,5 +209,5 @@ pub fn ask_privilege<G: Guard>(
         marks,
         inherited,
     )?;
-    Ok(marked_in(answer, other))
+    Ok(marked_in(answer))
 }

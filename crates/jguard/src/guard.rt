@@ -96,7 +96,8 @@ pub trait Guard {
         requires ask { IsAskKnown (kept self.old) (said ask) }
         requires marks { AreKnown (entry self.old) (reverse marks.now) }
         requires inherited { IsKnown (kept self.old) inherited }
-        ensures answer { IfOk result (λ a. AnswersFor (kept self.old) (kept self.new) (entry self.old) (entry self.new) (rules self.old) (said ask.entry)
+        ensures answer { IfOk result
+            (λ a. AnswersFor (kept self.old) (kept self.new) (entry self.old) (entry self.new) (rules self.old) (said ask.entry)
             (reverse marks.now) inherited (given_by a)) }
         ensures once { OnOk result (asked self.old (said ask.entry) self.new) }
         ensures rules { rules self.new ≡ rules self.old }

@@ -1,0 +1,11 @@
+use Rattle.std.specs.Prelude.{reverse}
+use Rattle.jsemantics.specs.jmachine.AccessQueries.{ChecksKept}
+use Rattle.jguard.specs.GuardQueries.{given_by}
+use Rattle.jguard.proofs.GuardAnswers.{kind_is}
+use Rattle.jguard.proofs.asking.ask_kept_check.Goals as goal
+
+pub verdict_in-requires : goal.verdict_in-requires
+verdict_in-requires g c =
+    kind_is (g.G.Guard.kept c.args.guard.now) (g.G.Guard.kept c.secure.new.self) (g.G.Guard.entry c.args.guard.now) (g.G.Guard.entry c.secure.new.self)
+    (g.G.Guard.rules c.args.guard.now) (ChecksKept c.args.asked.now c.args.kept) (reverse c.args.marks.now) c.args.inherited
+    (given_by c.in_ok-answer.answer) c.requires.ask c.requires.marks c.requires.inherited c.in_ok-answer.ensures.answer
