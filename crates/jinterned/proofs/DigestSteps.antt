@@ -1,21 +1,30 @@
--- A digest with four more numbers at once.
-use Rattle.std.proofs.Common.{◌≡◌, ◌∙◌, ℕ, ◌+◌, ◌*◌, ◌%◌, ◌^◌, ap, ap₂, sym, arith}
-use Rattle.jinterned.specs.ContextDigests.{stepped}
+-- A digest of pairs, four by four and one by one.
+use Rattle.std.proofs.Common.{◌≡◌, ℕ, zero, suc, ◌-◌, ◌<◌, ◌≤◌, List, [], ◌∷◌, drop, fold, length, take, refl, ap, arith}
+use Rattle.std.specs.Prelude.{get_or}
+use Rattle.jinterned.specs.declared.pairs.Pair.{Pair}
+use Rattle.jinterned.specs.ContextDigests.{digest_from, with_one, with_four}
 
--- two steps are one whose second number is the two's digest, by the square of what each multiplies by
-two_steps : (s a b : ℕ) → stepped (stepped s a) b ≡ (s * 956575116354345 % 2 ^ 64 + stepped a b) % 2 ^ 64
-unfolding stepped
-two_steps s a b = omega arith
+-- fewer than four pairs are stirred in one by one
+pub few : (sum : ℕ) (ps : List Pair) → length ps < 4 → digest_from sum ps ≡ fold with_one sum ps
+unfolding digest_from
+few sum [] lt = refl
+few sum (a ∷ []) lt = refl
+few sum (a ∷ b ∷ []) lt = refl
+few sum (a ∷ b ∷ c ∷ []) lt = refl
+few sum (a ∷ b ∷ c ∷ d ∷ ps) lt = absurd (omega (arith, lt))
 
--- and so once more
-twice : (s a b : ℕ) → ((s * 956575116354345 % 2 ^ 64 + a) % 2 ^ 64 * 956575116354345 % 2 ^ 64 + b) % 2 ^ 64
-    ≡ (s * 11527715348014283921 % 2 ^ 64 + (a * 956575116354345 % 2 ^ 64 + b) % 2 ^ 64) % 2 ^ 64
-twice s a b = omega arith
+whole : {T : Type 0} (xs : List T) (n : ℕ) → length xs ≤ n → take n xs ≡ xs
+whole [] zero le = refl
+whole [] (suc n) le = refl
+whole (x ∷ xs) zero le = absurd (omega (arith, le))
+whole (x ∷ xs) (suc n) le = ap (λ ys. x ∷ ys) (whole xs n (omega (arith, le)))
 
-pub four_steps : (s a b c d front back : ℕ) → front ≡ stepped a b → back ≡ stepped c d
-    → (s * 11527715348014283921 % 2 ^ 64 + (front * 956575116354345 % 2 ^ 64 + back) % 2 ^ 64) % 2 ^ 64 ≡ stepped (stepped (stepped (stepped s a) b) c) d
-four_steps s a b c d front back first last =
-    sym (twice s front back)
-    ∙ ap₂ (λ (x y : ℕ). ((s * 956575116354345 % 2 ^ 64 + x) % 2 ^ 64 * 956575116354345 % 2 ^ 64 + y) % 2 ^ 64) first last
-    ∙ ap (λ (x : ℕ). (x * 956575116354345 % 2 ^ 64 + stepped c d) % 2 ^ 64) (sym (two_steps s a b))
-    ∙ sym (two_steps (stepped (stepped s a) b) c d)
+-- four are taken at once
+pub four_more : (sum : ℕ) (ps : List Pair) (w x y z : Pair) → 4 ≤ length ps
+    → digest_from (with_four sum (get_or ps 0 w) (get_or ps 1 x) (get_or ps 2 y) (get_or ps 3 z)) (take (length ps - 4) (drop 4 ps)) ≡ digest_from sum ps
+unfolding digest_from
+four_more sum [] w x y z le = absurd (omega (arith, le))
+four_more sum (a ∷ []) w x y z le = absurd (omega (arith, le))
+four_more sum (a ∷ b ∷ []) w x y z le = absurd (omega (arith, le))
+four_more sum (a ∷ b ∷ c ∷ []) w x y z le = absurd (omega (arith, le))
+four_more sum (a ∷ b ∷ c ∷ d ∷ ps) w x y z le = ap (λ (qs : List Pair). digest_from (with_four sum a b c d) qs) (whole ps (length (a ∷ b ∷ c ∷ d ∷ ps) - 4) (omega arith))

@@ -1,6 +1,6 @@
+pub mod DigestSteps
 pub mod DigestChains
 pub mod ListCuts
-pub mod DigestSteps
 pub mod EnteredDomains
 pub mod DigestLookup
 pub mod ContextGrowth

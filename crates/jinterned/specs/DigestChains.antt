@@ -21,7 +21,8 @@ abbrev pub AreChained : List ℕ → List ℕ → Type 0
 AreChained chains earlier = (length earlier ≡ length chains) × ((i p : ℕ) → slice_get chains i ≡ Some p → IsLast chains p i (get_or earlier i 0))
 
 abbrev pub AreLinked : List ℕ → List ℕ → List ℕ → Type 0
-AreLinked digests heads earlier = (0 < length heads) × AreHeads (chains_of (length heads) digests) heads × AreChained (chains_of (length heads) digests) earlier
+AreLinked digests heads earlier = (0 < length heads) × AreHeads (chains_of (length heads) digests) heads
+    × AreChained (chains_of (length heads) digests) earlier
 
 -- What has a digest is all on one chain, and the number is that behind one of its entries, or 0.
 pub record IsOn (digests earlier : List ℕ) (digest at : ℕ) : Type 0 where

@@ -1,4 +1,4 @@
-ghost use Rattle.std.specs.Prelude.{◌≡◌, ◌∷◌, [], fold};
+ghost use Rattle.std.specs.Prelude.{◌≡◌, fold};
 ghost use Rattle.jinterned.specs.ContextDigests;
 
 use crate::pairs::Pair;
@@ -6,21 +6,7 @@ use bitflags::Flags;
 use jground::jbase::Seq;
 use jperm::{BasicClass, Permission};
 
-/// What a digest is multiplied by, squared and to the fourth, each modulo 2 ^ 64.
-const SQUARED: u64 = 956_575_116_354_345;
-
-const TO_THE_FOURTH: u64 = 11_527_715_348_014_283_921;
-
-/// A digest of pairs with one more number.
-#[tactic(auto, unfolding(crate::specs::ContextDigests::stepped))]
-#[inline]
-fn stepped(sum: u64, n: u64) -> u64
-    ensures { result ≡ ContextDigests.stepped sum n }
-{
-    sum.wrapping_mul(1_099_511_628_211).wrapping_add(n)
-}
-
-/// A digest of limits with one more number. It isn't linear in the number, so that names of one digest aren't had by solving equations.
+/// A digest with one more number. It isn't linear in the number, so that equal digests aren't had by solving equations.
 #[tactic(auto, unfolding(crate::specs::ContextDigests::stirred))]
 #[inline]
 fn stirred(sum: u64, n: u64) -> u64
@@ -82,33 +68,48 @@ pub fn digest_limits(limits: &Seq<Permission>) -> u64
     sum
 }
 
-/// A pair as one number, in whose lower bits both of its numbers tell.
+/// A pair as one number.
 #[inline]
 fn number_of(p: Pair) -> u64
     ensures { result ≡ ContextDigests.number_of p }
 {
-    let limits = u64::from(p.limits) * 1_000_003;
-    limits + u64::from(p.domain)
+    u64::from(p.limits) * (1 << 32) + u64::from(p.domain)
 }
 
-/// A digest with four more pairs. Only one multiplication waits for the digest before.
+/// A pair's number over all bits, so that what is stirred with it can't be made up for half by half.
+#[tactic(auto, unfolding(crate::specs::ContextDigests::spread))]
+#[inline]
+fn spread(p: Pair) -> u64
+    ensures { result ≡ ContextDigests.spread p }
+{
+    number_of(p).wrapping_mul(11_400_714_819_323_198_485)
+}
+
+/// A digest with one more pair.
+#[inline]
+fn with_one(sum: u64, p: Pair) -> u64
+    ensures { result ≡ ContextDigests.with_one sum p }
+{
+    stirred(sum, spread(p))
+}
+
+/// A digest with four more pairs. Only one stirring waits for the digest before.
 #[inline]
 fn with_four(sum: u64, a: Pair, b: Pair, c: Pair, d: Pair) -> u64
-    ensures { result ≡ fold ContextDigests.digest_pair sum (a ∷ b ∷ c ∷ d ∷ []) }
+    ensures { result ≡ ContextDigests.with_four sum a b c d }
 {
-    let front = stepped(number_of(a), number_of(b));
-    let back = stepped(number_of(c), number_of(d));
-    let four = front.wrapping_mul(SQUARED).wrapping_add(back);
-    sum.wrapping_mul(TO_THE_FOURTH).wrapping_add(four)
+    let front = stirred(stirred(0, number_of(a)), spread(b));
+    let back = stirred(0, number_of(c)).wrapping_add(spread(d));
+    stirred(sum, front.wrapping_add(back))
 }
 
 /// On from the digest of what stands in front.
 fn digest_rest(start: u64, pairs: &[Pair]) -> u64
-    ensures { result ≡ fold ContextDigests.digest_pair start pairs.now }
+    ensures { result ≡ fold ContextDigests.with_one start pairs.now }
 {
     let mut sum = start;
     for p in pairs {
-        sum = stepped(sum, number_of(*p));
+        sum = with_one(sum, *p);
     }
     sum
 }

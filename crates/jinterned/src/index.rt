@@ -32,8 +32,10 @@ impl Model for Index {
 /// Puts an entry of a digest behind the others of its chain. After an error all is as before.
 fn link(heads: &mut Vec<usize>, earlier: &mut Vec<usize>, digest: u64) -> Result<(), AllocError>
     requires { 0 < length heads.old.items }
-    ensures heads { OnOk result (heads.new.items ≡ slice_set heads.old.items (bit_and digest (length heads.old.items - 1)) (length earlier.old.items + 1)) }
-    ensures earlier { OnOk result (earlier.new.items ≡ earlier.old.items ++ get_or heads.old.items (bit_and digest (length heads.old.items - 1)) 0 ∷ []) }
+    ensures heads { OnOk result
+        (heads.new.items ≡ slice_set heads.old.items (bit_and digest (length heads.old.items - 1)) (length earlier.old.items + 1)) }
+    ensures earlier { OnOk result
+        (earlier.new.items ≡ earlier.old.items ++ get_or heads.old.items (bit_and digest (length heads.old.items - 1)) 0 ∷ []) }
     ensures same_heads { OnErr result (heads.new.items ≡ heads.old.items) }
     ensures same_earlier { OnErr result (earlier.new.items ≡ earlier.old.items) }
 {

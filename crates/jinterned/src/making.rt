@@ -65,7 +65,8 @@ pub fn add_all(sets: &Sets, lists: &Lists, made: &mut Vec<Pair>, n: usize) -> Re
     requires there { n < length lists.now }
     requires lists { AllNamed (length sets.now) lists.now }
     requires made { AreNamed (length sets.now) made.old.items }
-    ensures added { OnOk result (items_of sets.now made.new.items ≡ joined (items_of sets.now made.old.items) (items_of sets.now (get_or lists.now n []))) }
+    ensures added { OnOk result
+        (items_of sets.now made.new.items ≡ joined (items_of sets.now made.old.items) (items_of sets.now (get_or lists.now n []))) }
     ensures named { OnOk result (AreNamed (length sets.now) made.new.items) }
 {
     for i in 0..lists.count(n) {
@@ -125,7 +126,8 @@ pub fn add_others(
     requires there { n < length lists.now }
     requires lists { AllNamed (length sets.now) lists.now }
     requires made { AreNamed (length sets.now) made.old.items }
-    ensures added { OnOk result (items_of sets.now made.new.items ≡ items_of sets.now made.old.items ++ others d (items_of sets.now (get_or lists.now n []))) }
+    ensures added { OnOk result
+        (items_of sets.now made.new.items ≡ items_of sets.now made.old.items ++ others d (items_of sets.now (get_or lists.now n []))) }
     ensures named { OnOk result (AreNamed (length sets.now) made.new.items) }
 {
     let count = lists.count(n);
@@ -179,7 +181,8 @@ fn add_limited(
     requires known { IfSome known (AreExtended sets.old limits.now) }
     requires pair { pair.limits < length sets.old }
     ensures known { IfOk result (AreExtended sets.new limits.now) }
-    ensures added { OnOk result (items_of sets.new made.new.items ≡ added (items_of sets.old made.old.items) (items.with_limits limits.now (item_of sets.old pair))) }
+    ensures added { OnOk result
+        (items_of sets.new made.new.items ≡ added (items_of sets.old made.old.items) (items.with_limits limits.now (item_of sets.old pair))) }
     ensures named { OnOk result (AreNamed (length sets.new) made.new.items) }
     ensures more { Extends sets.old sets.new }
 {

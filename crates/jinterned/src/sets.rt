@@ -95,7 +95,7 @@ impl Sets {
     }
 
     /// Whether each of the limits of a number is one of those of another.
-    #[tactic(auto, using(crate::proofs::LimitNumbers::within_none, crate::proofs::LimitNumbers::within_equal, crate::proofs::LimitNumbers::within_read))]
+    #[tactic(auto, using(crate::proofs::LimitNumbers::within_none, crate::proofs::LimitNumbers::within_equal, crate::proofs::LimitNumbers::within_read),)]
     pub fn is_within(&self, a: u32, b: u32) -> bool
         requires a { a < length self.now }
         requires b { b < length self.now }

@@ -362,3 +362,57 @@ pub fn rising(count: &str, answer: &mut Answer) {
     let found = twice(alloc, &mut contexts, count);
     tell_numbers(found, &contexts, answer);
 }
+
+/// Domains of the context of a number, that of the first call first. The domains of all these contexts, times the powers of
+/// 1,099,511,628,211 from the last call's on, have one sum modulo 2 ^ 64, since its square is 870 times itself less 189,225.
+fn alike(number: u32) -> [u32; 4] {
+    let (k, j) = (number / 256, number % 256);
+    [
+        j.wrapping_mul(189_225).wrapping_add(1_600_000_000),
+        k.wrapping_mul(189_225)
+            .wrapping_sub(j.wrapping_mul(870))
+            .wrapping_add(1_000_000_000),
+        j.wrapping_sub(k.wrapping_mul(870))
+            .wrapping_add(500_000_000),
+        k,
+    ]
+}
+
+/// The number of the context of domains, each called by the one before.
+fn called(alloc: Global, contexts: &mut Table, domains: &[u32]) -> Result<u64, Unread> {
+    let mut n = 0;
+    for domain in domains {
+        if n >= contexts.len() {
+            return Err(Unread::Line);
+        }
+        n = contexts.enter(alloc, n, *domain)?;
+    }
+    Ok(n)
+}
+
+/// The number of the last of so many contexts of domains that are alike.
+fn last_alike(alloc: Global, contexts: &mut Table, count: u32) -> Result<u64, Unread> {
+    let mut n = 0;
+    for number in 0..count {
+        n = called(alloc, contexts, &alike(number))?;
+    }
+    Ok(n)
+}
+
+/// The numbers of the last of so many contexts of domains that are alike, made twice.
+fn alike_twice(alloc: Global, contexts: &mut Table, count: u32) -> Result<(u64, u64), Unread> {
+    let once = last_alike(alloc, contexts, count)?;
+    let again = last_alike(alloc, contexts, count)?;
+    Ok((once, again))
+}
+
+/// The numbers of the last of so many contexts of domains that are alike, made twice, and how many contexts have numbers.
+pub fn alikes(count: &str, answer: &mut Answer) {
+    let alloc = answer.alloc();
+    let count = answer.number(count);
+    let Ok(mut contexts) = Table::open(alloc) else {
+        return answer.lack();
+    };
+    let found = alike_twice(alloc, &mut contexts, count);
+    tell_numbers(found, &contexts, answer);
+}

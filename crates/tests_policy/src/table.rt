@@ -141,6 +141,7 @@ impl Table {
             "context" => contexts::context(directory, fields, answer),
             "turns" => contexts::turns(directory, fields, answer),
             "rising" => contexts::rising(fields, answer),
+            "alike" => contexts::alikes(fields, answer),
             _ => self.ask_below(kind, fields, answer),
         }
     }
