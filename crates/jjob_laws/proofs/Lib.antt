@@ -1,8 +1,8 @@
 mod Lines
 mod Utf8s
-mod Words
+pub mod Words
 mod PathIndependence
-mod PathReplacement
+pub mod PathReplacement
 mod StoredLineFaults
 mod Sources
 mod Jobs

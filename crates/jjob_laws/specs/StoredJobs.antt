@@ -22,7 +22,8 @@ in_place (path ∷ paths) (one ∷ old) = path ∷ in_place paths old
 -- code sources with these paths in the place of those of their class files, in their order
 unfoldable pub with_classes : List (List ℕ) → List JobSource → List JobSource
 with_classes paths [] = []
-with_classes paths (one ∷ more) = record { source = one.source; classes = in_place paths one.classes } ∷ with_classes (drop (length one.classes) paths) more
+with_classes paths (one ∷ more) = record { source = one.source; classes = in_place paths one.classes }
+    ∷ with_classes (drop (length one.classes) paths) more
 
 -- A job that is stored with other paths is read as it was, with these in the place of those of its class files.
 abbrev pub JobAgain : Type 0

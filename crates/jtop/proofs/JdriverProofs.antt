@@ -10,3 +10,6 @@ pub mod StoredFiles
 pub mod CommandAnswers
 pub mod RunProgress
 pub mod PassedRuns
+pub mod GeneratedSizes
+pub mod GeneratedLines
+pub mod GeneratedAnswers

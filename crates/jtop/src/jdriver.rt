@@ -16,6 +16,7 @@
 //! - `alike_law`: over a shelf that holds what `rewrite` stored, with the policy as it was, the form plain answers what the form pass answers of
 //!   the first job: the same text and the same status.
 //! - `unstuck_law`: no run that files ask for is ever stuck, in any form, and neither machine of the theorem is.
+//! - `made_law`: the answer to a job that is made has a status. Both calls promise this of whatever reads no file.
 
 mod counting;
 mod laws;
@@ -24,5 +25,5 @@ mod showing;
 mod top;
 
 pub use jshow::Status;
-pub use laws::{alike_law, passed_law, unstuck_law};
+pub use laws::{alike_law, made_law, passed_law, unstuck_law};
 pub use top::{dispatch, javasec};

@@ -34,7 +34,8 @@ ran r = record { text = run_text r; files = []; status = Some (status_of (ending
 
 -- a program that is rewritten: how many classes it has, and the files that are stored
 abbrev pub rewrote : List File → ℕ → Answer
-rewrote files classes = record { text = codes "rewritten " ++ (decimal classes ++ codes " classes\n"); files = files; status = Some statuses.Finished }
+rewrote files classes =
+    record { text = codes "rewritten " ++ (decimal classes ++ codes " classes\n"); files = files; status = Some statuses.Finished }
 
 -- what is told when a task is done
 unfoldable pub shown : Task → Answer
@@ -50,6 +51,14 @@ shown (tasks.Rewrite program job to) = rewrote (files_below to job program) (len
 unfoldable pub answer : Command → List File → Answer
 answer (commands.Gen seed size) files = made seed size
 answer c files = unless_stopped shown (task c files)
+
+-- the answer has a status
+abbrev pub HasStatus : Answer → Type 0
+HasStatus a = (own : Status) × (a.status ≡ Some own)
+
+-- The answer to each job that is made has one: no file that is read for its runs is missing or too long.
+abbrev pub MadeHaveStatus : Type 0
+MadeHaveStatus = (seed size : ℕ) → size ≤ most_size → HasStatus (made seed size)
 
 -- the command makes the files of its job
 abbrev pub makes : Command → Bool
@@ -99,7 +108,8 @@ Calm read_before read_now store_before store_now put_before put_now =
 
 -- The status is the answer's own over these files, or memory ran out.
 abbrev pub Complete : (List File → Answer) → (List File → Type 0) → Status → Type 0
-Complete answer_over IsHeld s = (files : List File) (own : Status) → IsHeld files → (answer_over files).status ≡ Some own → (s ≡ own) ⊎ (s ≡ statuses.OutOfMemory)
+Complete answer_over IsHeld s = (files : List File) (own : Status) → IsHeld files → (answer_over files).status ≡ Some own
+    → (s ≡ own) ⊎ (s ≡ statuses.OutOfMemory)
 
 -- The words are a command, and a file that is to be read for it is missing or too long.
 abbrev pub MissesAny : Option (List File) → Option Command → Type 0

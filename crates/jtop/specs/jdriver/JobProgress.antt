@@ -44,5 +44,6 @@ AllGoOn = (files : List File) (form : Form) (path : List ℕ) (it : Task) → Ho
 
 -- Where a job is run in the pass form, neither the inspecting run of its program nor the run of the moved program is ever stuck.
 abbrev pub BothGoOn : Type 0
-BothGoOn = (c : Command) (files : List File) (p : Program) (domains : List (List Permission)) (plan : Plan) → HoldBytes files → RunsPassed c files p domains plan
+BothGoOn = (c : Command) (files : List File) (p : Program) (domains : List (List Permission)) (plan : Plan) → HoldBytes files
+    → RunsPassed c files p domains plan
     → FramesGoOn p domains plan × ContextsGoOn (moved p) domains plan

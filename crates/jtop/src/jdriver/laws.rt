@@ -1,3 +1,4 @@
+ghost use Rattle.jtop.specs.jdriver.Answers.{MadeHaveStatus};
 ghost use Rattle.jtop.specs.jdriver.RewrittenRuns.{RunsAlike};
 ghost use Rattle.jtop.specs.jdriver.JobProgress.{AllGoOn, BothGoOn};
 ghost use Rattle.jtop.specs.jdriver.PassedRuns.{AlwaysPassedSo, MovedIsChecked, NeitherIsStuck, RunsAgree};
@@ -82,3 +83,9 @@ pub fn passed_law()
     moved_laws();
     unstuck_law();
 }
+
+/// The law of made jobs. The answer to a job of at most 1,000 classes that is made has a status: no file that is read for its two runs is missing
+/// or too long.
+pub fn made_law()
+    ensures { MadeHaveStatus }
+{}

@@ -8,13 +8,13 @@ ghost use Rattle.jshow.specs.declared.status.Status.TheVariants.{ReadFault, Stor
 ghost use Rattle.jshow.specs.CommandAnswers.{Answers};
 ghost use Rattle.jtasks.specs.jstages.Stages.{Misses};
 ghost use Rattle.jtasks.specs.jtask.Tasks.{reads, stores, task};
-ghost use Rattle.jtop.specs.jdriver.Answers.{Calm, Complete, IsSized, MissesAny, NoFileFault, Over, Stores, UsageExactly};
+ghost use Rattle.jtop.specs.jdriver.Answers.{Calm, Complete, HasStatus, IsSized, MissesAny, NoFileFault, Over, Stores, UsageExactly};
 ghost use Rattle.jtop.specs.jdriver.Answers.{answer, answered, any_makes, any_reads, any_stores, makes};
 ghost use Rattle.jtop.specs.jdriver.Headline.{AnswersAll, AnswersSome};
 ghost use Rattle.jtop.specs.jdriver.JobProgress.{HoldBytes};
 ghost use Rattle.jtop.specs.jdriver.PassedRuns.{IsPassedSo, MovedIsChecked, NeitherIsStuck, RunsAgree};
 
-use crate::jdriver::laws::passed_law;
+use crate::jdriver::laws::{made_law, passed_law};
 use crate::jdriver::making::show_made;
 use crate::jdriver::showing::{show, show_usage};
 use jjob::{Command, WordsError, read_words};
@@ -37,13 +37,15 @@ fn do_task<S: Shelf, K: Sink>(
     ensures passes { (files : List File) → S.held shelf.old ≡ Some files → AnswersSome command.now files result (K.out out.old) (K.out out.new) }
     ensures whole { (files : List File) → S.held shelf.old ≡ Some files → AnswersAll command.now files result (K.out out.old) (K.out out.new) }
     ensures usage { result ≡ Usage → ⊥ }
-    ensures files { (files : List File) → S.held shelf.old ≡ Some files → Stores (answer command.now files).files result (S.held shelf.old) (S.held shelf.new) }
+    ensures files { (files : List File) → S.held shelf.old ≡ Some files
+        → Stores (answer command.now files).files result (S.held shelf.old) (S.held shelf.new) }
     ensures held { stores command.now ≡ false → S.held shelf.new ≡ S.held shelf.old }
     ensures stored { stores command.now ≡ false → S.write_faults shelf.new ≡ S.write_faults shelf.old }
     ensures read { result ≡ ReadFault → Rose (S.read_faults shelf.old) (S.read_faults shelf.new) ⊎ Misses (S.held shelf.old) (task command.now) }
     ensures write { result ≡ WriteFault → Rose (K.faults out.old) (K.faults out.new) }
     ensures store { result ≡ StoreFault → Rose (S.write_faults shelf.old) (S.write_faults shelf.new) }
-    ensures complete { Calm (S.read_faults shelf.old) (S.read_faults shelf.new) (S.write_faults shelf.old) (S.write_faults shelf.new) (K.faults out.old) (K.faults out.new)
+    ensures complete { Calm (S.read_faults shelf.old) (S.read_faults shelf.new) (S.write_faults shelf.old) (S.write_faults shelf.new)
+        (K.faults out.old) (K.faults out.new)
         → Complete (answer command.now) (λ files. S.held shelf.old ≡ Some files) result }
     ensures reads_later { S.read_faults shelf.old ≤ S.read_faults shelf.new }
     ensures stores_later { S.write_faults shelf.old ≤ S.write_faults shelf.new }
@@ -119,13 +121,17 @@ pub fn dispatch<S: Shelf, K: Sink>(
     // A fault of storing is told only where one was counted in this call.
     ensures store { result ≡ StoreFault → Rose (S.write_faults shelf.old) (S.write_faults shelf.new) }
     // Where no fault is counted and each file that is to be read is there, the status is the answer's, or memory ran out.
-    ensures complete { Calm (S.read_faults shelf.old) (S.read_faults shelf.new) (S.write_faults shelf.old) (S.write_faults shelf.new) (K.faults out.old) (K.faults out.new)
+    ensures complete { Calm (S.read_faults shelf.old) (S.read_faults shelf.new) (S.write_faults shelf.old) (S.write_faults shelf.new)
+        (K.faults out.old) (K.faults out.new)
         → Complete (answer command.now) (Over (reads command.now) (S.held shelf.old)) result }
+    // The answer to a command that reads no file has a status.
+    ensures status { reads command.now ≡ false → (files : List File) → HasStatus (answer command.now files) }
     ensures reads_later { S.read_faults shelf.old ≤ S.read_faults shelf.new }
     ensures stores_later { S.write_faults shelf.old ≤ S.write_faults shelf.new }
     ensures puts_later { K.faults out.old ≤ K.faults out.new }
 {
     passed_law();
+    made_law();
     match seed_and_size(command) {
         Some((seed, size)) => show_made(alloc, seed, size, out),
         None => do_task(alloc, command, shelf, out),
@@ -170,7 +176,8 @@ pub fn javasec<S: Shelf, K: Sink>(
     ensures stored { any_stores (command_of (words_of words.now)) ≡ false → S.write_faults shelf.new ≡ S.write_faults shelf.old }
     // A fault of reading is told only where one was counted in this call, or where a file that is to be read is missing or too
     // long.
-    ensures read { result ≡ ReadFault → Rose (S.read_faults shelf.old) (S.read_faults shelf.new) ⊎ MissesAny (S.held shelf.old) (command_of (words_of words.now)) }
+    ensures read { result ≡ ReadFault → Rose (S.read_faults shelf.old) (S.read_faults shelf.new)
+        ⊎ MissesAny (S.held shelf.old) (command_of (words_of words.now)) }
     // Where the command makes its files none is read or stored, and there is no fault of either.
     ensures made { any_makes (command_of (words_of words.now)) ≡ true → NoFileFault result }
     // A fault of writing is told only where one was counted in this call.
@@ -178,13 +185,17 @@ pub fn javasec<S: Shelf, K: Sink>(
     // A fault of storing is told only where one was counted in this call.
     ensures store { result ≡ StoreFault → Rose (S.write_faults shelf.old) (S.write_faults shelf.new) }
     // Where no fault is counted and each file that is to be read is there, the status is the answer's, or memory ran out.
-    ensures complete { Calm (S.read_faults shelf.old) (S.read_faults shelf.new) (S.write_faults shelf.old) (S.write_faults shelf.new) (K.faults out.old) (K.faults out.new)
+    ensures complete { Calm (S.read_faults shelf.old) (S.read_faults shelf.new) (S.write_faults shelf.old) (S.write_faults shelf.new)
+        (K.faults out.old) (K.faults out.new)
         → Complete (answered words.now) (Over (any_reads (command_of (words_of words.now))) (S.held shelf.old)) result }
+    // The answer to words that read no file has a status.
+    ensures status { any_reads (command_of (words_of words.now)) ≡ false → (files : List File) → HasStatus (answered words.now files) }
     ensures reads_later { S.read_faults shelf.old ≤ S.read_faults shelf.new }
     ensures stores_later { S.write_faults shelf.old ≤ S.write_faults shelf.new }
     ensures puts_later { K.faults out.old ≤ K.faults out.new }
 {
     passed_law();
+    made_law();
     let command = match read_words(alloc, words) {
         Ok(command) => command,
         Err(WordsError::Usage) => return show_usage(out),

@@ -5,6 +5,7 @@ use Rattle.jtop.specs.jdriver.Answers.{Stores, answer}
 use Rattle.jtop.proofs.JdriverProofs.JobCreation.{made_all, made_is, made_some, no_file_fault, no_files, not_both, sized}
 use Rattle.jtop.proofs.JdriverProofs.StoredFiles.{stores_nothing}
 use Rattle.jtop.proofs.JdriverProofs.CommandAnswers.{own_status}
+use Rattle.jtop.proofs.JdriverProofs.GeneratedAnswers.{command_status}
 use Rattle.jtop.proofs.jdriver.top.dispatch.Goals as goal
 
 pub show_made-requires-clause-least : goal.show_made-requires-clause-least
@@ -83,3 +84,9 @@ pub returns-in-None-clause-unstuck : goal.returns-in-None-clause-unstuck
 returns-in-None-clause-unstuck g c = λ files bytes. c.passed_law.ensures.unstuck c.args.command.now files bytes
 
 -- ---- what reads no file has a status
+
+pub returns-in-Some-clause-status : goal.returns-in-Some-clause-status
+returns-in-Some-clause-status g c = command_status c.made_law.ensures c.args.command.now c.requires
+
+pub returns-in-None-clause-status : goal.returns-in-None-clause-status
+returns-in-None-clause-status g c = command_status c.made_law.ensures c.args.command.now c.requires

@@ -6,6 +6,7 @@ use Rattle.jtop.specs.jdriver.Answers.{Calm, Complete, NoFileFault, Over, Stores
 use Rattle.jtop.specs.jdriver.Headline.{AnswersAll, AnswersSome}
 use Rattle.jtop.proofs.JdriverProofs.JobSizes.{words_sized}
 use Rattle.jtop.proofs.JdriverProofs.CommandAnswers.{some_is}
+use Rattle.jtop.proofs.JdriverProofs.GeneratedAnswers.{words_status}
 use Rattle.jtop.proofs.jdriver.top.javasec.Goals as goal
 
 pub returns-clause-answer : goal.returns-clause-answer
@@ -72,3 +73,14 @@ returns-in-Err-Memory-clause-checked g c = λ files one bytes is. c.passed_law.e
 
 pub returns-in-Err-Memory-clause-unstuck : goal.returns-in-Err-Memory-clause-unstuck
 returns-in-Err-Memory-clause-unstuck g c = λ files one bytes is. c.passed_law.ensures.unstuck one files bytes
+
+-- ---- what reads no file has a status
+
+pub returns-clause-status : goal.returns-clause-status
+returns-clause-status g c = words_status c.made_law.ensures (words_of c.args.words.now)
+
+pub returns-in-Err-Usage-clause-status : goal.returns-in-Err-Usage-clause-status
+returns-in-Err-Usage-clause-status g c = words_status c.made_law.ensures (words_of c.args.words.now)
+
+pub returns-in-Err-Memory-clause-status : goal.returns-in-Err-Memory-clause-status
+returns-in-Err-Memory-clause-status g c = words_status c.made_law.ensures (words_of c.args.words.now)
