@@ -1,5 +1,6 @@
+use crate::devices::{Drip, MuteShelf, MuteSink};
 use crate::rows::{Asked, Faults, Row, Stored};
-use joutput::jio::{MemoryShelf, MemorySink, Shelf};
+use joutput::jio::{MemoryShelf, MemorySink, Shelf, Sink};
 use jtop::jmain::javasec;
 use std::alloc::{AllocError, Global};
 use tests_rows::Answer;
@@ -153,6 +154,17 @@ fn sink_of(alloc: Global, faults: Faults) -> Option<MemorySink> {
     }
 }
 
+/// The number of the status of what the words answer over these devices.
+fn status_over<S: Shelf, K: Sink>(
+    words: &str,
+    shelf: &mut S,
+    sink: &mut K,
+    answer: &mut Answer,
+) -> u8 {
+    let words = words_of(words, answer);
+    javasec(answer.alloc(), &words, shelf, sink).number()
+}
+
 /// What the words answer. Nothing where memory ran out.
 fn outcome_of<S: Shelf>(
     words: &str,
@@ -160,12 +172,10 @@ fn outcome_of<S: Shelf>(
     faults: Faults,
     answer: &mut Answer,
 ) -> Option<Outcome> {
-    let alloc = answer.alloc();
-    let words = words_of(words, answer);
-    let Some(mut sink) = sink_of(alloc, faults) else {
+    let Some(mut sink) = sink_of(answer.alloc(), faults) else {
         return None;
     };
-    let status = javasec(alloc, &words, shelf, &mut sink).number();
+    let status = status_over(words, shelf, &mut sink, answer);
     Some(Outcome { status, sink })
 }
 
@@ -452,21 +462,140 @@ fn are_stored<S: Shelf>(
     stored.count <= text.lines().count()
 }
 
+/// Whether what a row is to store stands, where it says something of it.
+fn is_kept<S: Shelf>(
+    row: &Row<'_>,
+    memory: &MemoryShelf,
+    shelf: &mut S,
+    answer: &mut Answer,
+) -> bool {
+    row.stored.list.is_empty() || are_stored(row.stored, memory, shelf, answer)
+}
+
+/// A shelf of a row's files and a sink, both in memory.
+fn devices_of<S: Shelf>(
+    row: &Row<'_>,
+    faults: Faults,
+    shelf: &mut S,
+    answer: &mut Answer,
+) -> Option<(MemoryShelf, MemorySink)> {
+    let files = files_of(row.files, shelf, answer);
+    let memory = memory_of(files, faults, answer)?;
+    match sink_of(answer.alloc(), faults) {
+        Some(sink) => Some((memory, sink)),
+        None => {
+            drop(memory);
+            None
+        }
+    }
+}
+
 /// Whether a row over files in memory is answered as it says, and stores what it says.
-fn is_memory_right<S: Shelf>(
+fn is_told_right<S: Shelf>(
     row: &Row<'_>,
     faults: Faults,
     wanted: &[u8],
     shelf: &mut S,
     answer: &mut Answer,
 ) -> bool {
-    let files = files_of(row.files, shelf, answer);
-    let Some(mut memory) = memory_of(files, faults, answer) else {
+    let Some((mut memory, mut sink)) = devices_of(row, faults, shelf, answer) else {
         return false;
     };
-    let got = outcome_of(row.words, &mut memory, faults, answer);
-    is_as(&got, row, wanted)
-        && (row.stored.list.is_empty() || are_stored(row.stored, &memory, shelf, answer))
+    let status = status_over(row.words, &mut memory, &mut sink, answer);
+    status == row.status && sink.bytes() == wanted && is_kept(row, &memory, shelf, answer)
+}
+
+/// So too over devices that tell nothing, around those in memory.
+fn is_mute_right<S: Shelf>(
+    row: &Row<'_>,
+    faults: Faults,
+    wanted: &[u8],
+    shelf: &mut S,
+    answer: &mut Answer,
+) -> bool {
+    let Some((memory, sink)) = devices_of(row, faults, shelf, answer) else {
+        return false;
+    };
+    let (mut memory, mut sink) = (MuteShelf::new(memory), MuteSink { sink });
+    let status = status_over(row.words, &mut memory, &mut sink, answer);
+    status == row.status
+        && sink.sink.bytes() == wanted
+        && is_kept(row, &memory.memory, shelf, answer)
+}
+
+// ---- sinks that take one byte a put
+
+/// The number of the status of a fault of writing.
+const WRITE_FAULT: u8 = 8;
+
+/// The status and the bytes of a row where the put of this number fails of a sink that takes one byte a put: each put before takes a byte
+/// of what the row is to write. Where it has no more bytes, they are the row's own.
+fn dripped(status: u8, wanted: &[u8], put: usize) -> (u8, &[u8]) {
+    if wanted.len() < put {
+        return (status, wanted);
+    }
+    let (front, _) = wanted.split_at(put.saturating_sub(1));
+    (WRITE_FAULT, front)
+}
+
+/// Whether a row is answered as it says by a sink that takes one byte a put.
+fn is_drip_right<S: Shelf>(
+    row: &Row<'_>,
+    faults: Faults,
+    wanted: &[u8],
+    shelf: &mut S,
+    answer: &mut Answer,
+) -> bool {
+    let Some((mut memory, sink)) = devices_of(row, faults, shelf, answer) else {
+        return false;
+    };
+    let mut drip = Drip { sink };
+    let status = status_over(row.words, &mut memory, &mut drip, answer);
+    status == row.status && drip.sink.bytes() == wanted && is_kept(row, &memory, shelf, answer)
+}
+
+/// So too over devices that tell nothing, around these.
+fn is_mute_drip_right<S: Shelf>(
+    row: &Row<'_>,
+    faults: Faults,
+    wanted: &[u8],
+    shelf: &mut S,
+    answer: &mut Answer,
+) -> bool {
+    let Some((memory, sink)) = devices_of(row, faults, shelf, answer) else {
+        return false;
+    };
+    let sink = Drip { sink };
+    let (mut memory, mut mute) = (MuteShelf::new(memory), MuteSink { sink });
+    let status = status_over(row.words, &mut memory, &mut mute, answer);
+    status == row.status
+        && mute.sink.sink.bytes() == wanted
+        && is_kept(row, &memory.memory, shelf, answer)
+}
+
+/// Whether a row is answered so for each put of a byte of what it is to write that fails, and for one behind them, by devices that tell
+/// what they hold and by those that don't.
+fn are_drips_right<S: Shelf>(
+    row: &Row<'_>,
+    wanted: &[u8],
+    shelf: &mut S,
+    answer: &mut Answer,
+) -> bool {
+    for j in 0..=wanted.len() {
+        let put = j.saturating_add(1);
+        let (status, front) = dripped(row.status, wanted, put);
+        let row = Row { status, ..*row };
+        let faults = Faults {
+            put: put as u64,
+            ..Faults::NONE
+        };
+        if !is_drip_right(&row, faults, front, shelf, answer)
+            || !is_mute_drip_right(&row, faults, front, shelf, answer)
+        {
+            return false;
+        }
+    }
+    true
 }
 
 // ---- rows
@@ -490,7 +619,11 @@ fn is_answered<S: Shelf>(row: &Row<'_>, wanted: &[u8], shelf: &mut S, answer: &m
         Asked::Forms(most) => are_forms_right(row, most, wanted, shelf, answer),
         Asked::Moved => is_moved_right(row, wanted, shelf, answer),
         Asked::Rewritten => is_rewritten_right(row, wanted, shelf, answer),
-        Asked::Memory(faults) => is_memory_right(row, faults, wanted, shelf, answer),
+        Asked::Drips => are_drips_right(row, wanted, shelf, answer),
+        Asked::Memory(faults) => {
+            is_told_right(row, faults, wanted, shelf, answer)
+                && is_mute_right(row, faults, wanted, shelf, answer)
+        }
         Asked::Real => {
             let got = outcome_of(row.words, shelf, Faults::NONE, answer);
             is_as(&got, row, wanted)

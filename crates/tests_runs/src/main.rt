@@ -9,6 +9,7 @@
 #![tactic(auto)]
 
 mod asking;
+mod devices;
 mod rows;
 
 use asking::is_right;

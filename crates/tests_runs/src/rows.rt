@@ -22,8 +22,10 @@ impl Faults {
 pub enum Asked {
     /// Once, over the files.
     Real,
-    /// Once, over files in memory.
+    /// Over files in memory, and over files that aren't told.
     Memory(Faults),
+    /// For each put of one byte that fails, and for one behind them.
+    Drips,
     /// For each front of the last of the files in memory.
     Fronts,
     /// For each number of steps below this one, as the first line of the job in memory.
@@ -75,6 +77,7 @@ fn asked_of(word: &str, digits: &str) -> Option<Asked> {
 fn asked_by(how: &str) -> Option<Asked> {
     match how {
         "fronts" => Some(Asked::Fronts),
+        "drips" => Some(Asked::Drips),
         "moved" => Some(Asked::Moved),
         "rewritten" => Some(Asked::Rewritten),
         _ => match how.split_once(' ') {
