@@ -41,11 +41,30 @@ def keeping(c, called):
     return b"\x2b" + (call(c, "sps/Rt", SNAPSHOT) if called else b"") + POP
 
 
+def ints(*words):
+    """Instructions on ints: a number is pushed, `+`, `-`, `*` and `/` take two, and a word of another kind stands for itself."""
+    ops = {"+": b"\x60", "-": b"\x64", "*": b"\x68", "/": b"\x6c", "%": b"\x70", "i": b"\x1c"}
+    return b"".join(w if isinstance(w, bytes) else ops[w] for w in words)
+
+
+def alike(c, called, apart):
+    """Enters four domains one behind the other from the empty context, by the number of the turn. The domains of all these contexts, times the
+    powers of 1,099,511,628,211 from the last one's on, have one sum modulo 2 ^ 64; where they are to be apart, they haven't."""
+    def n(value):
+        return b"\x12" + bytes([c.put(("i", value), b"\x03" + struct.pack(">i", value))])
+    k, j = ("i", n(256), "/"), ("i", n(256), "%")
+    first = ints(*j, n(189_225), "*", n(1_600_000_000), "+")
+    second = ints(*k, n(189_225), "*", *j, n(870), "*", "-", n(1_000_000_000), "+")
+    third = ints(*j, *k, n(870), "*", "-", n(500_000_000), "+", *(("i", "+") if apart else ()))
+    enter = call(c, "sps/Rt", ENTER) if called else POP
+    return b"\x2b" + b"".join(one + enter for one in (first, second, third, ints(*k, b"\x04", "+"))) + POP
+
+
 def method(c, name, desc, code, at, kind):
     """A static method with one frame, behind `at` bytes: another int behind the parameters, or none."""
     frame = (b"\xfc" + struct.pack(">H", at) + b"\x01") if kind else bytes([at])
     maps = struct.pack(">HIH", c.utf("StackMapTable"), 2 + len(frame), 1) + frame
-    body = struct.pack(">HHI", 4, 4, len(code)) + code + b"\0\0\0\1" + maps
+    body = struct.pack(">HHI", 6, 4, len(code)) + code + b"\0\0\0\1" + maps
     c.methods.append(struct.pack(">HHHHHI", 9, c.utf(name), c.utf(desc), 1, c.utf("Code"), len(body)) + body)
 
 
@@ -100,5 +119,7 @@ if __name__ == "__main__":
     row(program, "enter of three domains in turn", 3_000_000, 3, 0, lambda c, called: calling(c, range(1, 4), called))
     row(program, "enter of 100 domains in turn", 100_000, 100, 0, lambda c, called: calling(c, range(1, 101), called))
     row(program, "enter that is found in the table", 2_000_000, 2, 0, finding)
+    for apart in (True, False):
+        row(program, "enter of contexts " + ("apart" if apart else "of one sum"), 20_000, 4, 0, lambda c, called: alike(c, called, apart), 3)
     for depth in (0, 1_000):
         row(program, "snapshot at depth %d" % (depth + 3), 2_000_000, 1, depth, keeping)
